@@ -33,6 +33,8 @@ RECORDED = {"job": 300}
 # How many splits the larger problems have, up to the most, with each size near it: more than a thread takes at once,
 # and more than there are slots for.
 MANY_SPLITS = [129, 200, 256, 257, 512, 1000, 1001, *range(1010, 1025)]
+# And more than a direct network is built for, in texts of version 3.
+MORE_SPLITS = [1025, 1500, 4000]
 # More than there are processors, since a job's threads nap where they have nothing to do.
 PROGRAMS_AT_ONCE = 4 * os.cpu_count()
 EXAMPLES = os.path.join(os.path.dirname(os.path.abspath(__file__)), "..", "examples")
@@ -50,6 +52,7 @@ def groups():
     for kind, count in PLANNED.items():
         yield kind, wrong_plan, made(kind, count)
     yield "many", wrong_many, [(f"a problem of {splits} splits", many(splits)) for splits in MANY_SPLITS]
+    yield "more", wrong_more, [(f"a problem of {splits} splits", many(splits, 3)) for splits in MORE_SPLITS]
     for kind, count in PLAYED.items():
         yield kind, wrong_play, made(kind, count)
     for kind, count in RUN.items():
@@ -70,10 +73,10 @@ def groups():
         ]
 
 
-def many(splits):
+def many(splits, version=2):
     """A problem of so many splits for a few slots: the reference's search goes by the slots that are left."""
     rnd, workers = random.Random(splits), [f"w{w}" for w in range(4)]
-    lines = ["problem 2", "centre c0", "centre c1", "rack r0 c0", "rack r1 c0", "rack r2 c1"]
+    lines = [f"problem {version}", "centre c0", "centre c1", "rack r0 c0", "rack r1 c0", "rack r2 c1"]
     lines += [f"worker {name} r{w % 3} {rnd.randint(1, 3)}" for w, name in enumerate(workers)]
     for s in range(splits):
         # (half of the workers hold nothing, so that some starts cost)
@@ -139,9 +142,19 @@ def wrong_plan(program, text):
 
 
 def wrong_many(program, text):
-    wrong = wrong_plan(program, text)
-    if wrong:
-        return wrong
+    return wrong_plan(program, text) or wrong_recheck(program, text)
+
+
+def wrong_more(program, text):
+    """A direct network is not built for so many splits."""
+    direct = said_by(program, ["plan", "--network", "direct"], text)
+    if direct != (b"", 64):
+        return f"over a direct network it says {direct}"
+    return wrong_plan_over(program, ["plan"], text) or wrong_recheck(program, text)
+
+
+def wrong_recheck(program, text):
+    """A check of the plan that was made says what the reference says."""
     lines = said_by(program, ["plan", "--prices"], text)[0].partition(b"\n")[2]
     return wrong_check(program, text[: -len(b"end\n")] + b"plan\n" + lines + b"end\n")
 

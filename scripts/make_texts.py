@@ -13,6 +13,7 @@ sys.dont_write_bytecode = True
 import crates  # (it ends a script quietly where head does)
 
 MOST = {"centre": 8, "rack": 32, "worker": 256, "split": 1024}
+MOST_SPLITS_OF_3 = 131_072
 MOST_OF_SCRIPTS = {"document": 65_536, "command": 65_536}
 KEYWORDS = ["problem", "script", "job", "centre", "rack", "worker", "split", "barred", "dead", "busy", "plan", "start"]
 KEYWORDS += ["price", "end", "parts", "target", "silence", "doc", "begin", "wave", "done", "fail", "withdraw", "die"]
@@ -68,7 +69,7 @@ class Scenario:
         w, s = range(self.workers), range(self.splits)
         self.racks = racks
         self.rack_of = [rnd.randrange(racks) for _ in w]
-        self.free = [rnd.choice([0, 1, 1, 1, 2, 3, 16]) for _ in w]
+        self.free = [rnd.choice([0, 1, 1, 1, 2, 3, 16, *[17, 255] * (self.version == 3)]) for _ in w]
         self.live = [rnd.random() < 0.9 for _ in w]
         most = [67_108_864, 134_217_728, 8_589_934_592] if self.version == 3 else [67_108_864]
         self.bytes = [rnd.choice([0, 1, 7, 10, 20, 1000, *most]) for _ in s]
@@ -183,7 +184,7 @@ def changed(rnd):
 
 def spoiled_word(rnd, word):
     if word.isdigit() and rnd.random() < 0.7:
-        return rnd.choice(["0", "2", "3", "17", "67108865", "8589934593", str(2**64), "9" * 40, "00", "+1"])
+        return rnd.choice(["0", "2", "3", "17", "255", "256", "67108865", "8589934593", str(2**64), "9" * 40, "00", "+1"])
     others = ["w0", "s0", "r0", "w9", "new", "0", "1", "17", "01", "67108865", "-1", "x" * 33, "9x", "", "a/b"]
     return rnd.choice([*others, *KEYWORDS, word + ".", word.upper(), word * 2])
 
@@ -304,7 +305,7 @@ def job_lines(rnd):
         while not scenario.workers:
             scenario = Scenario(rnd)
         scenario.free[rnd.randrange(scenario.workers)] += 1
-        scenario.free = [min(free, 16) for free in scenario.free]
+        scenario.free = [min(free, 255 if scenario.version == 3 else 16) for free in scenario.free]
         scenario.holders = [held or [rnd.randrange(scenario.workers)] for held in scenario.holders]
     racks, workers, splits = scenario.cluster()
     settings = [f"parts {rnd.randint(1, 4)}", f"target {rnd.randint(1, 8)}", "silence 3"]
@@ -379,14 +380,17 @@ def spoiled(rnd, lines):
     return text
 
 
-def limit(kind, over):
-    """A text with so many past the most data centres, racks, workers or splits."""
-    count = {"centre": 1, "rack": 1, "worker": 1, "split": 0, kind: MOST[kind] + over}
-    lines = ["problem 2", *(f"centre c{i}" for i in range(count["centre"]))]
+def limit(kind, over, version=2):
+    """A text with so many past the most data centres, racks, workers or splits. In version 3 splits have the longest
+    names, so that the text of the most splits has more bytes than any other text may have."""
+    most = MOST_SPLITS_OF_3 if (kind, version) == ("split", 3) else MOST[kind]
+    count = {"centre": 1, "rack": 1, "worker": 1, "split": 0, kind: most + over}
+    lines = [f"problem {version}", *(f"centre c{i}" for i in range(count["centre"]))]
     lines += [f"rack r{i} c0" for i in range(count["rack"])]
     lines += [f"worker w{i} r0 16" for i in range(count["worker"])]
-    lines += [f"split s{i} 0" for i in range(count["split"])] + ["plan"]
-    lines += [f"price w{i} 0" for i in range(count["worker"])] + [f"price s{i} 0" for i in range(count["split"])]
+    splits = [f"{i:064d}" if version == 3 else f"s{i}" for i in range(count["split"])]
+    lines += [f"split {name} 0" for name in splits] + ["plan"]
+    lines += [f"price w{i} 0" for i in range(count["worker"])] + [f"price {name} 0" for name in splits]
     return text_of([*lines, "end"])
 
 

@@ -12,11 +12,15 @@ SHORT_NAME, LONG_NAME = re.compile(rb"[A-Za-z][A-Za-z0-9._-]{0,31}"), re.compile
 NAME = {1: SHORT_NAME, 2: SHORT_NAME, 3: LONG_NAME}
 NUMBER = re.compile(rb"0|[1-9][0-9]*")
 MAX_TEXT_BYTES = 16_777_216
+# The first line of a text that may have more, and how many it may have.
+LONG_HEAD, MAX_LONG_TEXT_BYTES = b"problem 3\n", 268_435_456
 MAX_HOLDERS = 8
 MAX_COMMANDS = 65_536
 # How many of a kind a text declares at most; a job has fewer workers.
 MOST = {"centre": 8, "rack": 32, "worker": 256, "split": 1024, "doc": 65_536}
 MOST_WORKERS_OF_A_JOB = 32
+# Of a text of version 3 to plan from or to check.
+MOST_SPLITS = 131_072
 FIRST = {"check": b"problem", "plan": b"problem", "play": b"script", "run": b"job"}
 # The places after a keyword: a name, a number, any count of names or of numbers, or a name and a free text. A rack has
 # its centre from version 2 on.
@@ -71,7 +75,7 @@ RANGES = {
     b"problem": (1, 3),
     b"script": (1, 3),
     b"job": (1, 3),
-    b"worker": (0, 16),
+    b"worker": (0, 255),
     b"price": (0, 2**64 - 1),
     b"parts": (1, 64),
     b"target": (1, 8),
@@ -81,8 +85,9 @@ RANGES = {
     b"withdraw": (0, 1_000_000),
     b"sweep": (0, 2**40),
 }
-# The most bytes of a split, by the text's version.
+# The most bytes of a split and the most slots of a worker, by the text's version.
 MOST_BYTES = {1: 67_108_864, 2: 67_108_864, 3: 8_589_934_592}
+MOST_SLOTS = {1: 16, 2: 16, 3: 255}
 # The kinds of the names that a line uses, after the name that it declares.
 USES = {
     b"worker": ("rack",),
@@ -127,6 +132,8 @@ class Given:
         return any(name in names for names in self.numbers.values())
 
     def most(self, kind):
+        if kind == "split" and self.version == 3 and self.command in ("plan", "check"):
+            return MOST_SPLITS
         return MOST_WORKERS_OF_A_JOB if (kind, self.command) == ("worker", "run") else MOST[kind]
 
     def setting(self, name, otherwise):
@@ -222,6 +229,8 @@ def faults(given, keyword, words, shape):
             found.add(5)
     if keyword == b"split" and numbers[0] > MOST_BYTES[given.version]:
         found.add(5)
+    if keyword == b"worker" and numbers[0] > MOST_SLOTS[given.version]:
+        found.add(5)
     if keyword == b"split" and len(names) - 1 > MAX_HOLDERS:
         found.add(6)
     if keyword in COMMANDS and len(given.commands) >= MAX_COMMANDS:
@@ -273,7 +282,7 @@ def enter(given, keyword, words, text):
 
 def read(text, command):
     """What a text declares; raises its least fault, by line and then by number."""
-    if len(text) > MAX_TEXT_BYTES:
+    if len(text) > (MAX_LONG_TEXT_BYTES if text.startswith(LONG_HEAD) else MAX_TEXT_BYTES):
         raise Fault(0, 11)
     *lines, rest = text.split(b"\n")
     given = Given(command)

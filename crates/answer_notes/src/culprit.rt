@@ -5,8 +5,10 @@ use line_shapes::{Keyword, Kind, Place};
 use std::alloc::{AllocError, Global};
 use text_lines::{Fault, NameTable, Number, TextFault, is_long_name, is_name, printable};
 
-// How many words stand before the bytes of a split.
+// How many words stand before the bytes of a split, and before the slots of a worker.
 const SPLIT_BYTES: usize = 2;
+
+const WORKER_SLOTS: usize = 3;
 
 // A split line with its ninth holder has so many words before it.
 const NINTH_HOLDER: usize = 11;
@@ -92,12 +94,16 @@ fn first_unfit<'t>(fault: Fault, long: bool, line: &'t str) -> Option<Word<'t>> 
     None
 }
 
-// The number that is out of the range of its place, or else the bytes of a split, which have a lower limit
-// before version 3.
+// The number that is out of the range of its place, or else the bytes of a split or the slots of a worker,
+// which have a lower limit before version 3.
 fn out_of_range(line: &str) -> Option<Word<'_>> {
-    match first_unfit(Fault::OutOfRange, false, line) {
-        Some(word) => Some(word),
-        None => word_at(line, SPLIT_BYTES),
+    match (
+        first_unfit(Fault::OutOfRange, false, line),
+        keyword_in(line),
+    ) {
+        (Some(word), _) => Some(word),
+        (None, Some(Keyword::Worker)) => word_at(line, WORKER_SLOTS),
+        (None, _) => word_at(line, SPLIT_BYTES),
     }
 }
 

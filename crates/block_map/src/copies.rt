@@ -26,7 +26,7 @@ pub(crate) fn copy_orders(
     let limit = target.min(live_count(table));
     let mut orders = Vec::new(alloc);
     for i in 0..blocks.splits() {
-        let split = SplitNo::new(i as u16);
+        let split = SplitNo::new(i as u32);
         let count = blocks.holders(split).len();
         if 0 < count && count < limit {
             orders.push(copy_of(blocks, table, tree, split))?;

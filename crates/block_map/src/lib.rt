@@ -206,7 +206,7 @@ fn is_any_full(lists: &[Holders], set: &SplitSet) -> bool
     ensures { result ≡ has_eight_among lists.now set.now }
 {
     for i in 0..lists.len() {
-        let member = set.has(SplitNo::new(i as u16));
+        let member = set.has(SplitNo::new(i as u32));
         if is_full_member(&lists[i], member) {
             return true;
         }
@@ -226,7 +226,7 @@ fn add_to_each(lists: &mut Vec<Holders>, worker: WorkerNo, set: &SplitSet)
     ensures { lists.new.items ≡ with_holder_of_all lists.old.items set.now worker }
 {
     for i in 0..lists.len() {
-        let member = set.has(SplitNo::new(i as u16));
+        let member = set.has(SplitNo::new(i as u32));
         add_if(&mut lists[i], member, worker);
     }
 }

@@ -33,7 +33,7 @@ pub(crate) struct Checker<'a> {
     plan: &'a Plan,
     prices: &'a Prices,
     reward: u64,
-    loads: [u16; MAX_WORKERS],
+    loads: [u32; MAX_WORKERS],
 }
 
 impl<'a> Model for Checker<'a> {
@@ -93,18 +93,18 @@ impl<'a> Checker<'a> {
         self.plan.of(split)
     }
 
-    fn load(&self, worker: WorkerNo) -> u16
+    fn load(&self, worker: WorkerNo) -> u32
         requires { worker < length self.now.wave.workers }
         ensures { result ≡ load (pairs_of self.now.starts) worker }
     {
         self.loads[worker.index()]
     }
 
-    fn slots(&self, worker: WorkerNo) -> u16
+    fn slots(&self, worker: WorkerNo) -> u32
         requires { worker < length self.now.wave.workers }
         ensures { result ≡ (worker_at self.now.wave worker).free }
     {
-        u16::from(self.problem.free(worker))
+        u32::from(self.problem.free(worker))
     }
 
     pub(crate) fn reward(&self) -> u64
@@ -155,7 +155,7 @@ impl<'a> Checker<'a> {
     {
         let mut total = 0;
         for i in 0..self.splits() {
-            let split = SplitNo::new(i as u16);
+            let split = SplitNo::new(i as u32);
             if let Some(worker) = self.start(split) {
                 total += self.tight_cost(split, worker);
             }
@@ -356,7 +356,7 @@ impl<'a> Checker<'a> {
         ensures err { IfErr result (IsFirstOf self.now of_open) }
     {
         for i in 0..self.splits() {
-            let split = SplitNo::new(i as u16);
+            let split = SplitNo::new(i as u32);
             if !self.opens(split) {
                 return Err(Condition::Open(split));
             }
@@ -369,7 +369,7 @@ impl<'a> Checker<'a> {
         ensures err { IfErr result (IsFirstOf self.now of_allowed) }
     {
         for i in 0..self.splits() {
-            let split = SplitNo::new(i as u16);
+            let split = SplitNo::new(i as u32);
             if let Some(worker) = self.start(split) {
                 if !self.allows(split, worker) {
                     return Err(Condition::Allowed(split, worker));
@@ -398,7 +398,7 @@ impl<'a> Checker<'a> {
         ensures err { IfErr result (IsFirstOf self.now of_split_price) }
     {
         for i in 0..self.splits() {
-            let split = SplitNo::new(i as u16);
+            let split = SplitNo::new(i as u32);
             if !self.has_split_price(split) {
                 return Err(Condition::SplitPrice(split));
             }
@@ -424,7 +424,7 @@ impl<'a> Checker<'a> {
         ensures err { IfErr result (IsFirstOf self.now of_unstarted) }
     {
         for i in 0..self.splits() {
-            let split = SplitNo::new(i as u16);
+            let split = SplitNo::new(i as u32);
             if !self.is_free_unless_started(split) {
                 return Err(Condition::Unstarted(split));
             }
@@ -447,14 +447,14 @@ impl<'a> Checker<'a> {
 }
 
 // How many splits the plan starts on each of its workers.
-fn loads_of(plan: &Plan, workers: usize) -> [u16; MAX_WORKERS]
+fn loads_of(plan: &Plan, workers: usize) -> [u32; MAX_WORKERS]
     requires count { workers ≡ plan.now.workers }
     requires few { workers ≤ MAX_WORKERS }
     ensures { (w : ℕ) → w < MAX_WORKERS → slice_index result w ≡ load (pairs_of plan.now.starts) w }
 {
     let mut loads = [0; MAX_WORKERS];
     for i in 0..plan.splits() {
-        if let Some(worker) = plan.of(SplitNo::new(i as u16)) {
+        if let Some(worker) = plan.of(SplitNo::new(i as u32)) {
             loads[worker.index()] += 1;
         }
     }

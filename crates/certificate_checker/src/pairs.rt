@@ -120,7 +120,7 @@ impl<'a> PairChecker<'a> {
         ensures err { IfErr result (IsFirstOf self.now of_priced) }
     {
         for i in 0..self.splits() {
-            let split = SplitNo::new(i as u16);
+            let split = SplitNo::new(i as u32);
             if let Some(worker) = self.first_underpriced(split) {
                 return Err(Condition::Priced(split, worker));
             }
@@ -139,7 +139,7 @@ impl<'a> PairChecker<'a> {
     {
         let rows = self.underpriced_on(rt, alloc)?;
         for i in 0..self.splits() {
-            let split = SplitNo::new(i as u16);
+            let split = SplitNo::new(i as u32);
             if let Some(worker) = rows[i] {
                 return Err(CheckError::Failed(Condition::Priced(split, worker)));
             }
@@ -163,7 +163,7 @@ impl<'a> PairChecker<'a> {
                 |i: usize| -> Option<WorkerNo>
                     requires { (i < length self.now.wave.splits) × (i < MAX_SPLITS) }
                     ensures { IsFirstUnderpriced self.entry.now i result }
-                { self.first_underpriced(SplitNo::new(i as u16)) },
+                { self.first_underpriced(SplitNo::new(i as u32)) },
             )
             .with_min_len(SPLITS_PER_THREAD)
             .collect(rt, alloc)
@@ -174,7 +174,7 @@ impl<'a> PairChecker<'a> {
         ensures err { IfErr result (IsFirstOf self.now of_tight) }
     {
         for i in 0..self.splits() {
-            let split = SplitNo::new(i as u16);
+            let split = SplitNo::new(i as u32);
             if let Some(worker) = self.checker.start(split) {
                 if !self.is_tight(split, worker) {
                     return Err(Condition::Tight(split, worker));

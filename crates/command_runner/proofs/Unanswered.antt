@@ -3,7 +3,7 @@ use Rattle.std.proofs.Common.{ℕ, List, Option, Some, None, Result, Ok, Err, �
 use Rattle.std.proofs.Common.{sym, take, ◌∙◌}
 use Rattle.std.specs.Result.{IsErrAnd}
 use Rattle.std.specs.Io.KnownBytes.{Appends, Keeps}
-use Rattle.text_lines.specs.Streams.{AppendsFront, ConsumesAtMost, most_read}
+use Rattle.text_lines.specs.Streams.{AppendsFront, ConsumesText, most_read_of}
 use Rattle.text_lines.specs.declared.fault.TextFault.{TextFault}
 use Rattle.text_lines.specs.declared.streams.ReadError.{ReadError}
 use Rattle.text_lines.specs.declared.streams.ReadError.TheVariants as reading
@@ -46,7 +46,7 @@ failed : {End : Type 0} (Answers : List ℕ → Result End TextFault → List �
     (e : ToolError) → result ≡ Err e → (IsText e → ⊥) → (e ≡ Memory → Keeps old new)
     → (e ≡ Read → Keeps old new)
     → (e ≡ Write → HoldsOfText unread (λ text. WroteFront old new (IsSomeAnswer (Answers text))))
-    → (e ≡ HistoryFull → HoldsOfText unread (RanOut IsFull old new)) → ConsumesAtMost unread left most_read
+    → (e ≡ HistoryFull → HoldsOfText unread (RanOut IsFull old new)) → ConsumesText unread left
     → HasRun Answers IsFull unread left old new result
 failed Answers IsFull unread left old new result e is no_text memory read write full few = record {
   answered = λ end ended. absurd (no_text (end_is_text end e (sym ended ∙ is)));
@@ -62,7 +62,7 @@ failed Answers IsFull unread left old new result e is no_text memory read write 
 pub unread_text : {End : Type 0} (Answers : List ℕ → Result End TextFault → List ℕ → Type 0)
     (IsFull : List ℕ → Type 0) (unread left old : Option (List ℕ)) (error : ReadError)
     (result : Result End ToolError) → IsErrAnd result (λ e. e ≡ error_of_reading error)
-    → ConsumesAtMost unread left most_read → HasRun Answers IsFull unread left old old result
+    → ConsumesText unread left → HasRun Answers IsFull unread left old old result
 unread_text Answers IsFull unread left old reading.Memory result told few =
     failed Answers IsFull unread left old old result Memory (is_error Memory result told) (λ it. it)
     (λ _. keeps_itself old) (λ _. keeps_itself old) (λ it. absurd cc) (λ it. absurd cc) few
@@ -76,9 +76,9 @@ pub unanswered : {End : Type 0} (Answers : List ℕ → Result End TextFault →
     → Type 0)
     (unread left old : Option (List ℕ)) (read text : List ℕ) (why : NoAnswer) (result : Result End ToolError)
     → IsErrAnd result (λ e. e ≡ error_of_answering why)
-    → IfSome unread (λ input. read ≡ take most_read input) → text ≡ read →
+    → IfSome unread (λ input. read ≡ take (most_read_of input) input) → text ≡ read →
     (why ≡ none.HistoryFull → IsFull text)
-    → ConsumesAtMost unread left most_read → HasRun Answers IsFull unread left old old result
+    → ConsumesText unread left → HasRun Answers IsFull unread left old old result
 unanswered Answers IsFull unread left old read text none.Memory result told given shown full few =
     failed Answers IsFull unread left old old result Memory (is_error Memory result told) (λ it. it)
     (λ _. keeps_itself old) (λ _. keeps_itself old) (λ it. absurd cc) (λ it. absurd cc) few
@@ -87,7 +87,7 @@ unanswered Answers IsFull unread left old read text none.HistoryFull result told
     (λ it. it) (λ it. absurd cc) (λ it. absurd cc) (λ it. absurd cc)
     (λ _. record {
       text = text;
-      read = subst (λ t. IfSome unread (λ input. t ≡ take most_read input)) (sym shown) given;
+      read = subst (λ t. IfSome unread (λ input. t ≡ take (most_read_of input) input)) (sym shown) given;
       holds = record { full = full refl; kept = keeps_itself old };
     })
     few
@@ -96,11 +96,11 @@ unanswered Answers IsFull unread left old read text none.HistoryFull result told
 
 module _ {End : Type 0} (Answers : List ℕ → Result End TextFault → List ℕ → Type 0)
     (IsFull : List ℕ → Type 0) (unread left old new : Option (List ℕ)) (read text lines bytes : List ℕ)
-    (mine : Result End TextFault) (given : IfSome unread (λ input. read ≡ take most_read input))
+    (mine : Result End TextFault) (given : IfSome unread (λ input. read ≡ take (most_read_of input) input))
     (shown : text ≡ read) (answers : Answers text mine lines) (told : bytes ≡ lines)
-    (few : ConsumesAtMost unread left most_read) where
-  was_read : IfSome unread (λ input. text ≡ take most_read input)
-  was_read = subst (λ t. IfSome unread (λ input. t ≡ take most_read input)) (sym shown) given
+    (few : ConsumesText unread left) where
+  was_read : IfSome unread (λ input. text ≡ take (most_read_of input) input)
+  was_read = subst (λ t. IfSome unread (λ input. t ≡ take (most_read_of input) input)) (sym shown) given
 
   -- and was not written, or not whole
   pub unwritten : (result : Result End ToolError) → IsErrAnd result (λ e. e ≡ Write)

@@ -2,7 +2,7 @@
 use Rattle.std.specs.Prelude.{ℕ, List, ⊤, ◌≡◌, Option, Ok, Err, IfSome, take}
 use Rattle.std.specs.declared.result.Result.{Result}
 use Rattle.std.specs.Io.KnownBytes.{Appends, Keeps}
-use Rattle.text_lines.specs.Streams.{AppendsFront, ConsumesAtMost, most_read}
+use Rattle.text_lines.specs.Streams.{AppendsFront, ConsumesText, most_read_of}
 use Rattle.text_lines.specs.declared.fault.TextFault.{TextFault}
 use Rattle.command_runner.specs.declared.tool_error.ToolError.{ToolError}
 use Rattle.command_runner.specs.declared.tool_error.ToolError.TheVariants.{HistoryFull, Memory, Read, Text}
@@ -35,7 +35,7 @@ error_of_answering none.HistoryFull = HistoryFull
 -- this holds of some text: of what a reader has, where that is known
 pub record HoldsOfText (unread : Option (List ℕ)) (Holds : List ℕ → Type 0) : Type 0 where
   pub text : List ℕ
-  pub read : IfSome unread (λ input. text ≡ take most_read input)
+  pub read : IfSome unread (λ input. text ≡ take (most_read_of input) input)
   pub holds : Holds text
 
 -- the text is one to which a command has no answer for want of attempts; nothing is written
@@ -64,7 +64,7 @@ pub record HasRun {End : Type 0} (Answers : List ℕ → Result End TextFault �
   pub write : result ≡ Err Write
       → HoldsOfText unread (λ text. WroteFront old new (IsSomeAnswer (Answers text)))
   pub full : result ≡ Err HistoryFull → HoldsOfText unread (RanOut IsFull old new)
-  pub few : ConsumesAtMost unread left most_read
+  pub few : ConsumesText unread left
 
 -- each text has ends that are the same, and answers that are alike
 abbrev pub HasOneAnswer : {End : Type 0} → (List ℕ → Result End TextFault → List ℕ → Type 0)
@@ -83,5 +83,5 @@ abbrev pub WroteItsAnswer : {End : Type 0} → (List ℕ → Result End TextFaul
 WroteItsAnswer {End} Answers SameEnd Alike unread old new result = (end : Result End TextFault) →
     result ≡ outcome end
     → IfSome unread (λ input. (other : Result End TextFault) (line : List ℕ) →
-    Answers (take most_read input) other line
+    Answers (take (most_read_of input) input) other line
     → SameEnd end other × Wrote old new (λ written. Alike written line))

@@ -58,7 +58,7 @@ whole_of (event.Sweep place) = Sweep place
 whole_of (event.ReduceStart a part w) = ReduceStart a part w
 whole_of (event.PartDone a) = PartDone a
 whole_of (event.PartFailed a) = PartFailed a
-whole_of (event.Backup a s w) = Backup a s w
+whole_of (event.Backup a s w) = Backup w a s
 
 -- an entry that names nothing is its event's; another one's event has none
 whole_back : (e : Entry) (sets : List (List ℕ)) (totals : List Totals) →

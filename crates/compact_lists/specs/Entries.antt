@@ -29,7 +29,7 @@ event_of sets totals (Sweep place) = event.Sweep place
 event_of sets totals (ReduceStart a part w) = event.ReduceStart a part w
 event_of sets totals (PartDone a) = event.PartDone a
 event_of sets totals (PartFailed a) = event.PartFailed a
-event_of sets totals (Backup a s w) = event.Backup a s w
+event_of sets totals (Backup w a s) = event.Backup a s w
 
 -- what it names is there, of so many sets and totals
 abbrev pub IsWithin : ℕ → ℕ → Entry → Type 0

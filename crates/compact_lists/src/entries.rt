@@ -19,8 +19,11 @@ pub(crate) enum Entry {
     ReduceStart(AttemptNo, PartNo, WorkerNo),
     PartDone(AttemptNo),
     PartFailed(AttemptNo),
-    Backup(AttemptNo, SplitNo, WorkerNo),
+    // (the narrow number first, beside the tag)
+    Backup(WorkerNo, AttemptNo, SplitNo),
 }
+
+const _: () = prove!(size_of::<Entry>() == 12);
 
 // How many splits a wave starts, and at which byte-distance.
 #[derive(Clone, Copy, Debug)]
@@ -57,7 +60,7 @@ pub(crate) fn entry_of(sets: &mut Vec<SplitSet>, totals: &mut Vec<Totals>, event
         Event::ReduceStart(attempt, part, worker) => Entry::ReduceStart(attempt, part, worker),
         Event::PartDone(attempt) => Entry::PartDone(attempt),
         Event::PartFailed(attempt) => Entry::PartFailed(attempt),
-        Event::Backup(attempt, split, worker) => Entry::Backup(attempt, split, worker),
+        Event::Backup(attempt, split, worker) => Entry::Backup(worker, attempt, split),
     }
 }
 
@@ -95,7 +98,7 @@ pub(crate) fn event_of(sets: &[SplitSet], totals: &[Totals], entry: Entry) -> Ev
         Entry::ReduceStart(attempt, part, worker) => Event::ReduceStart(attempt, part, worker),
         Entry::PartDone(attempt) => Event::PartDone(attempt),
         Entry::PartFailed(attempt) => Event::PartFailed(attempt),
-        Entry::Backup(attempt, split, worker) => Event::Backup(attempt, split, worker),
+        Entry::Backup(worker, attempt, split) => Event::Backup(attempt, split, worker),
     }
 }
 

@@ -64,6 +64,7 @@ impl DirectArc {
         requires { IsWanted problem.now self.now }
         ensures capacity { result ≡ (arc_of problem.now self.now).capacity }
         ensures most { result ≤ MAX_SPLITS }
+        ensures few { length problem.now.splits ≤ 4096 → result ≤ 4096 }
     {
         match *self {
             DirectArc::Pair(_, _) => 1,

@@ -65,7 +65,7 @@ impl Layout for DirectLayout {
         let splits = usize::from(self.splits);
         let workers = usize::from(self.workers);
         if index < splits {
-            DirectNode::Split(SplitNo::new(index as u16))
+            DirectNode::Split(SplitNo::new(index as u32))
         } else if index < splits + workers {
             DirectNode::Worker(WorkerNo::new((index - splits) as u16))
         } else if index == splits + workers {

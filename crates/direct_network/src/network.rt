@@ -2,9 +2,9 @@
 ghost use Rattle.std.specs.Prelude.{◌≡◌, ℕ, ◌+◌, ◌*◌, ◌<◌, ◌≤◌, ◌^◌, ◌∷◌, ◌++◌, [], length, IfOk, OnOk};
 ghost use Rattle.std.specs.Prelude.{slice_index};
 ghost use Rattle.wave_problem.specs.Wave.{reward as reward_in};
-ghost use Rattle.wave_problem.specs.declared.TheConstants.{MAX_SPLITS};
 ghost use Rattle.network_prices.specs.Building.{IsAdded};
 ghost use Rattle.direct_network.specs.declared.arcs.TheConstants.{MAX_ARCS};
+ghost use Rattle.direct_network.specs.declared.network.TheConstants.{MAX_SPLITS};
 ghost use Rattle.direct_network.specs.Direct.{arc_of, worker_node, IsDirect, IsSized, IsWanted};
 ghost use Rattle.direct_network.specs.Build.{IsBuilt};
 
@@ -14,14 +14,22 @@ use node_ids::{SplitNo, WorkerNo};
 use std::alloc::{AllocError, Global};
 use wave_problem::{Problem, SplitCosts};
 
+/// How many splits a problem may have for its direct network to be built.
+pub const MAX_SPLITS: usize = 1024;
+
 /// The direct network of a problem, without flow: first each split's arcs, to workers and to `Unstarted`;
-/// then the workers' arcs to `Sink`, then that of `Unstarted`.
+/// then the workers' arcs to `Sink`, then that of `Unstarted`. Of a problem of more than `MAX_SPLITS` splits
+/// none is made, as where memory is wanting.
 pub fn build(alloc: Global, problem: &Problem) -> Result<Network<DirectLayout>, AllocError>
     ensures layout { IfOk result (λ network. IsSized problem.now network.layout) }
     ensures arcs { IfOk result (λ network. IsDirect problem.now network.arcs) }
     ensures empty { IfOk result (λ network. (k : ℕ) → slice_index network.flows k ≡ 0) }
     ensures most { IfOk result (λ network. length network.arcs ≤ MAX_ARCS) }
+    ensures few { IfOk result (λ _. length problem.now.splits ≤ MAX_SPLITS) }
 {
+    if problem.splits() > MAX_SPLITS {
+        return Err(AllocError);
+    }
     let layout = DirectLayout {
         splits: problem.splits() as u16,
         workers: problem.workers() as u16,
@@ -41,7 +49,8 @@ fn make_room_for_workers(
     network: &mut Network<DirectLayout>,
     problem: &Problem,
 ) -> Result<(), AllocError>
-    requires { IsSized problem.now network.old.layout }
+    requires few { length problem.now.splits ≤ MAX_SPLITS }
+    requires sized { IsSized problem.now network.old.layout }
     ensures { network.new ≡ network.old }
 {
     let splits = unbarred_splits(problem);
@@ -53,11 +62,11 @@ fn make_room_for_workers(
 
 // How many splits are pending without a barred pair.
 fn unbarred_splits(problem: &Problem) -> usize
-    ensures { result ≤ MAX_SPLITS }
+    ensures { result ≤ length problem.now.splits }
 {
     let mut count = 0;
     for i in 0..problem.splits() {
-        if is_unbarred(problem, SplitNo::new(i as u16)) {
+        if is_unbarred(problem, SplitNo::new(i as u32)) {
             count += 1;
         }
     }
@@ -73,13 +82,15 @@ fn is_unbarred(problem: &Problem, split: SplitNo) -> bool
 
 // Adds the arcs that leave splits.
 fn add_splits(network: &mut Network<DirectLayout>, problem: &Problem) -> Result<(), AllocError>
-    requires { IsBuilt problem.now 0 0 0 network.old }
+    requires few { length problem.now.splits ≤ MAX_SPLITS }
+    requires built { IsBuilt problem.now 0 0 0 network.old }
     ensures { OnOk result
         (IsBuilt problem.now (length problem.now.splits) 0 (257 * length problem.now.splits) network.new) }
 {
+    problem.limits();
     let reward = problem.reward();
     for i in 0..problem.splits() {
-        add_split(network, problem, SplitNo::new(i as u16), reward)?;
+        add_split(network, problem, SplitNo::new(i as u32), reward)?;
     }
     Ok(())
 }
@@ -92,7 +103,7 @@ fn add_split(
     reward: u64,
 ) -> Result<(), AllocError>
     requires split { split < length problem.now.splits }
-    requires few { split < MAX_SPLITS }
+    requires few { length problem.now.splits ≤ MAX_SPLITS }
     requires reward { reward ≡ reward_in problem.now }
     requires small { reward < 2 ^ 47 }
     requires built { IsBuilt problem.now split 0 (257 * split) network.old }
@@ -118,7 +129,7 @@ fn add_pairs(
     split: SplitNo,
 ) -> Result<(), AllocError>
     requires split { split < length problem.now.splits }
-    requires few { split < MAX_SPLITS }
+    requires few { length problem.now.splits ≤ MAX_SPLITS }
     requires built { IsBuilt problem.now split 0 (257 * split) network.old }
     ensures built { OnOk result
         (IsBuilt problem.now split (worker_node problem.now (length problem.now.workers))
@@ -161,6 +172,7 @@ fn add(
     arc: DirectArc,
     cost: u64,
 ) -> Result<(), AllocError>
+    requires few { length problem.now.splits ≤ MAX_SPLITS }
     requires layout { IsSized problem.now network.old.layout }
     requires wanted { IsWanted problem.now arc }
     requires cost { cost ≡ (arc_of problem.now arc).cost }

@@ -69,7 +69,7 @@ table =
     ∷ fault (codes "10")
     (codes "a split or a worker has no price at `end`")
     ∷ fault (codes "11")
-    (codes "the text has more than 16,777,216 bytes")
+    (codes "the text has more than 16,777,216 bytes, or 268,435,456 after the line `problem 3`")
     ∷ fault (codes "12")
     (codes "the last line has no line feed")
     ∷ fault (codes "13")
@@ -133,7 +133,7 @@ table =
     ∷ status (codes "6")
     (codes "a job's history is not made of its threads' calls, or a thread could not be started")
     ∷ status (codes "64")
-    (codes "usage: the words of the command line ask for nothing")
+    (codes "usage: the words of the command line ask for nothing, or for a direct network past 1,024 splits")
     ∷ status (codes "141")
     (codes "the reader of the answer has gone")
     ∷ []

@@ -70,7 +70,7 @@ const ENTRIES: [Entry; 44] = [
     Entry {
         kind: "fault",
         name: "11",
-        sentence: "the text has more than 16,777,216 bytes",
+        sentence: "the text has more than 16,777,216 bytes, or 268,435,456 after the line `problem 3`",
     },
     Entry {
         kind: "fault",
@@ -230,7 +230,7 @@ const ENTRIES: [Entry; 44] = [
     Entry {
         kind: "status",
         name: "64",
-        sentence: "usage: the words of the command line ask for nothing",
+        sentence: "usage: the words of the command line ask for nothing, or for a direct network past 1,024 splits",
     },
     Entry {
         kind: "status",

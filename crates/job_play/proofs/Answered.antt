@@ -65,6 +65,7 @@ pub few_and_small : (head : Head) → IsFitHead head →
     AreFewAndSmall head.slots.items head.splits.items (values_of head.texts.items) head.parts
 few_and_small head is = record {
   few_slots = is.few_slots;
+  few_splits = is.few_splits;
   small_splits = is.small_splits;
   few_documents = is.few_documents;
   few_parts = is.few_parts;

@@ -62,7 +62,7 @@ pub fn states_of(alloc: Global, master: &Master) -> Option<Vec<SplitState>>
     // names what a state holds, which the proof of the loop asks for
     let _none: Option<Attempt> = None;
     for number in 0..count {
-        states.push_reserved(master.state(SplitNo::new(number as u16)));
+        states.push_reserved(master.state(SplitNo::new(number as u32)));
     }
     Some(states)
 }

@@ -72,7 +72,7 @@ fn text_of(alloc: Global, split: u16, words: &str) -> Option<SplitText>
             text: Text::new(String::from_str(alloc, words).ok()?),
         })
         .ok()?;
-    Some(SplitText::new(SplitNo::new(split), documents))
+    Some(SplitText::new(SplitNo::new(u32::from(split)), documents))
 }
 
 fn texts_of(rt: &impl Abort, alloc: Global, rows: &[SplitRow<'_>]) -> Option<Vec<Arc<SplitText>>>

@@ -151,7 +151,7 @@ fn has_slot(problem: &Problem) -> bool {
 // Whether each split is done or held by nobody.
 fn are_left(problem: &Problem, master: &Master) -> bool {
     for split in 0..problem.splits() {
-        let holders = problem.holders(SplitNo::new(split as u16));
+        let holders = problem.holders(SplitNo::new(split as u32));
         if !is_done(master, split) && !holders.is_empty() {
             return false;
         }

@@ -30,6 +30,16 @@ fn as_many_workers_and_parts_as_there_may_be(rt: HostRuntime) {
     assert!(rt; told.is_index(&wanted), "{told:?}");
 }
 
+// A worker of 255 slots, on which as many splits start in one wave, and another one that holds nothing.
+#[test]
+fn as_many_slots_as_there_may_be(rt: HostRuntime) {
+    let rows: [SplitRow<'_>; 300] = [(5, &[0], "one"); 300];
+    let job = job_of(&rt, rt.alloc(), &[255, 255], &rows, 1, 50, AMPLE).expect(&rt, "no job");
+    let told = tell(&rt, rt.alloc(), run(&rt, rt.alloc(), job, &Yields));
+    let wanted = index_of(&rt, rt.alloc(), "one", 300);
+    assert!(rt; told.is_index(&wanted), "{told:?}");
+}
+
 // A split of 16 MB, whose one map outlasts many turns of the calling thread.
 #[test]
 fn one_great_split_under_the_plain_gate(rt: HostRuntime) {

@@ -75,7 +75,7 @@ pub fn is_done(master: &Master, split: usize) -> bool {
     split < 1024
         && split < master.cluster().splits().len()
         && matches!(
-            master.state(SplitNo::new(split as u16)),
+            master.state(SplitNo::new(split as u32)),
             SplitState::Done(_)
         )
 }

@@ -1,9 +1,13 @@
 -- What lanes and board say at the end of a run.
-use Rattle.std.specs.Prelude.{ℕ, ◌≡◌, ◌<◌, List, [], ◌∷◌, Some, slice_get, slice_index}
+use Rattle.std.specs.Prelude.{ℕ, ◌≡◌, ◌*◌, ◌<◌, max, List, [], ◌∷◌, Some, slice_get, slice_index}
 use Rattle.beat_board.specs.Values.{AreToldOnce, AreWithin, ReaderValue, SeatValue, beats_by}
 use Rattle.lane_queue.specs.declared.order.Order.{Order}
 use Rattle.lane_queue.specs.Lanes.{LaneValue, PassValue, one_each, puts_of, takes_of}
 use Rattle.lane_queue.specs.Orders.{Settles}
+
+-- how many orders the lane of a worker with so many slots holds
+abbrev pub lane_places : ℕ → ℕ
+lane_places slots = max 32 (2 * slots)
 
 -- the first pass of a lane
 abbrev pub first_pass : LaneValue → PassValue

@@ -49,7 +49,7 @@ impl Holdings {
         };
         for split in 0..splits {
             let line = &cluster.splits()[split];
-            holdings.add_all(SplitNo::new(split as u16), &line.holders);
+            holdings.add_all(SplitNo::new(split as u32), &line.holders);
         }
         Ok(holdings)
     }
@@ -133,7 +133,7 @@ impl Holdings {
             return set;
         };
         for split in 0..self.splits {
-            let split = SplitNo::new(split as u16);
+            let split = SplitNo::new(split as u32);
             if self.may_return(holding, split) {
                 set.put(split);
             }

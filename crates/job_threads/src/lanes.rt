@@ -2,7 +2,7 @@ ghost use Rattle.std.specs.Prelude.{◌≡◌, ◌⊎◌, ◌<◌, ◌≤◌, �
 ghost use Rattle.std.specs.Prelude.{length, map, nat_le, slice_get};
 ghost use Rattle.lane_queue.specs.Lanes.{LaneValue, PassValue};
 ghost use Rattle.lane_queue.specs.Orders.{attempt_of};
-ghost use Rattle.job_threads.specs.Closing.{AreHandedOver, IsHandedOver, IsHalfOf, first_pass};
+ghost use Rattle.job_threads.specs.Closing.{AreHandedOver, IsHandedOver, IsHalfOf, first_pass, lane_places};
 ghost use Rattle.job_threads.specs.Steps.{with_put};
 ghost use Rattle.job_threads.specs.declared.outcome.RunError.{RunError};
 
@@ -16,7 +16,11 @@ use std::marker::{Model, PhantomData};
 use std::sync::Wait;
 use std::sync::atomic::{AtomicU64, Ordering};
 
-// A worker's lane, which holds 32 orders.
+// How many orders a lane holds at least.
+const LEAST_PLACES: usize = 32;
+
+// A worker's lane. It has two places for each slot of the worker, since beside the orders that may run there
+// may lie as many that were lost when the worker died.
 #[derive(Drop)]
 pub(crate) struct Way {
     lane: Lane,
@@ -29,29 +33,33 @@ impl Model for Way {
 
     ghost view = { λ w. w.lane };
 
-    ghost invariant = { λ w. w.lane.capacity ≡ 32 };
+    ghost invariant = { λ w. 32 ≤ w.lane.capacity };
 }
 
 impl Way {
-    // A new lane, with its first pass.
-    fn new(alloc: Global) -> Result<(Way, Pass), AllocError>
-        ensures { IfOk result (λ made. made.1 ≡ first_pass made.0) }
+    // A new lane of a worker with so many slots, with its first pass.
+    fn new(alloc: Global, slots: u8) -> Result<(Way, Pass), AllocError>
+        ensures places { IfOk result (λ made. made.0.capacity ≡ lane_places slots) }
+        ensures pass { IfOk result (λ made. made.1 ≡ first_pass made.0) }
     {
-        let (lane, pass) = Lane::new(alloc, 32)?;
+        let places = (2 * usize::from(slots)).max(LEAST_PLACES);
+        let (lane, pass) = Lane::new(alloc, places)?;
         let lost = AtomicU64::new(0);
         Ok((Way { lane, lost }, pass))
     }
 }
 
-// A lane for each of so many workers, with its first pass.
-pub(crate) fn new_ways(alloc: Global, workers: usize) -> Result<(Vec<Way>, Vec<Pass>), AllocError>
-    ensures count { IfOk result (λ made. length made.0.items ≡ workers) }
+// A lane for each worker, by its slots, with its first pass.
+pub(crate) fn new_ways(alloc: Global, slots: &[u8]) -> Result<(Vec<Way>, Vec<Pass>), AllocError>
+    ensures count { IfOk result (λ made. length made.0.items ≡ length slots.now) }
+    ensures places { IfOk result (λ made.
+        map (λ way. way.capacity) made.0.items ≡ map lane_places slots.now) }
     ensures passes { IfOk result (λ made. made.1.items ≡ map first_pass made.0.items) }
 {
     let mut ways = Vec::new(alloc);
     let mut passes = Vec::new(alloc);
-    for _ in 0..workers {
-        let (way, pass) = Way::new(alloc)?;
+    for slots in slots {
+        let (way, pass) = Way::new(alloc, *slots)?;
         ways.push(way)?;
         passes.push(pass)?;
     }
@@ -107,14 +115,14 @@ pub(crate) struct LaneEnd<'a, L: Aim> {
 }
 
 impl<'a, L: Aim> Model for LaneEnd<'a, L> {
-    ghost use Rattle.std.specs.Prelude.{◌≡◌};
+    ghost use Rattle.std.specs.Prelude.{◌≡◌, ◌≤◌};
     ghost use Rattle.lane_queue.specs.Lanes.{PassValue};
 
     ghost Value = { PassValue };
 
     ghost view = { λ e. e.half };
 
-    ghost invariant = { λ e. (e.half.lane ≡ e.way.now.lane) × (e.way.now.capacity ≡ 32) };
+    ghost invariant = { λ e. (e.half.lane ≡ e.way.now.lane) × (32 ≤ e.way.now.capacity) };
 }
 
 impl<'a, L: Aim> LaneEnd<'a, L> {
@@ -136,7 +144,7 @@ impl<'a, L: Aim> LaneEnd<'a, L> {
 
     // With this pass.
     fn of(way: &'a Way, worker: WorkerNo, pass: Pass) -> LaneEnd<'a, L>
-        requires lane { (slice_get L.lanes worker ≡ Some way.now) × (way.now.capacity ≡ 32) }
+        requires lane { (slice_get L.lanes worker ≡ Some way.now) × (32 ≤ way.now.capacity) }
         requires pass { (pass.lane ≡ way.now.lane) × (pass.depth ≡ 1) }
         ensures { result ≡ pass }
     {

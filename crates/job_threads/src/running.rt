@@ -5,7 +5,7 @@ ghost use Rattle.hand_ledger.specs.Hands.{new_hand};
 ghost use Rattle.job_threads.specs.Outcomes.{IsOutcomeOf, IsRecordOf, setup_of};
 ghost use Rattle.job_threads.specs.Holdings.{opened, upto};
 ghost use Rattle.lane_queue.specs.Lanes.{LaneValue};
-ghost use Rattle.job_threads.specs.Closing.{AreCounted, AreHandedOver, first_pass};
+ghost use Rattle.job_threads.specs.Closing.{AreCounted, AreHandedOver, first_pass, lane_places};
 ghost use Rattle.job_threads.specs.Settled.{ConcludesAs, no_hand};
 ghost use Rattle.job_threads.specs.declared.outcome.RunError.{RunError};
 
@@ -73,7 +73,7 @@ pub fn run_recorded<G: Gate, O: Observer, R: Threads + Wait + Clock + Sync>(
     ensures record { IfOk result (IsRecordOf (setup_of job)) }
     ensures limit { result ≡ Err RunError.GateLimit → G.may_end ≡ true }
 {
-    let paths = new_paths(alloc, job.cluster.slots().len())?;
+    let paths = new_paths(alloc, job.cluster.slots())?;
     run_on::<Brand, G, O, R>(rt, alloc, Blank::new(4096), job, paths, gate, observer)
 }
 
@@ -89,17 +89,19 @@ struct Paths {
     ghost passes_of: { passes.items ≡ map first_pass ways.items },
 }
 
-// For so many workers.
-fn new_paths(alloc: Global, workers: usize) -> Result<Paths, RunError>
-    requires { workers ≤ 32 }
-    ensures board { IfOk result (λ paths. paths.board.workers ≡ workers) }
-    ensures lanes { IfOk result (λ paths. length paths.ways.items ≡ workers) }
+// For workers with so many slots.
+fn new_paths(alloc: Global, slots: &[u8]) -> Result<Paths, RunError>
+    requires { length slots.now ≤ 32 }
+    ensures board { IfOk result (λ paths. paths.board.workers ≡ length slots.now) }
+    ensures lanes { IfOk result (λ paths. length paths.ways.items ≡ length slots.now) }
+    ensures places { IfOk result (λ paths.
+        map (λ way. way.capacity) paths.ways.items ≡ map lane_places slots.now) }
     ensures err { IfErr result (λ e. e ≡ RunError.Memory) }
 {
-    let Ok((board, maker)) = Board::new(alloc, workers) else {
+    let Ok((board, maker)) = Board::new(alloc, slots.len()) else {
         return Err(RunError::Memory);
     };
-    let Ok((ways, passes)) = new_ways(alloc, workers) else {
+    let Ok((ways, passes)) = new_ways(alloc, slots) else {
         return Err(RunError::Memory);
     };
     Ok(Paths {

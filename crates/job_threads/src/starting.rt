@@ -220,7 +220,7 @@ impl<'a, L: Ledger + OfJob + Aim> Caller<'a, L> {
         let mut started = false;
         let splits = common.shared.sizes().splits.min(1024);
         for split in 0..splits {
-            started |= self.back_up_split(rt, common, SplitNo::new(split as u16))?;
+            started |= self.back_up_split(rt, common, SplitNo::new(split as u32))?;
         }
         Ok(started)
     }

@@ -82,7 +82,7 @@ impl Lane {
     /// its memory here.
     pub fn new(alloc: Global, capacity: usize) -> Result<(Lane, Pass), AllocError>
         requires some { 0 < capacity }
-        requires few { capacity ≤ 64 }
+        requires few { capacity ≤ 512 }
         ensures capacity { IfOk result (λ r. r.0.capacity ≡ capacity) }
         ensures pass { IfOk result (λ r. r.1 ≡ record { lane = r.0.lane; puts = []; takes = []; depth = 0 }) }
     {

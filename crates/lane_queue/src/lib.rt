@@ -48,4 +48,4 @@ pub use lane::{CloseRefused, Full, Lane, Pass, Tally};
 pub use order::Order;
 
 /// How many orders a lane holds at most.
-pub const MAX_CAPACITY: usize = 64;
+pub const MAX_CAPACITY: usize = 512;

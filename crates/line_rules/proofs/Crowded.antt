@@ -16,14 +16,14 @@ use Rattle.line_shapes.specs.Demands.{HasShape, IsWithinIn, MeetsDemand}
 use Rattle.line_shapes.specs.Lines.{Differ, HasTailApart, IsShaped, Statement, tail_words}
 use Rattle.line_shapes.specs.Places.{more_of, places_of}
 use Rattle.line_shapes.specs.declared.keyword.Keyword.{Keyword}
-use Rattle.line_shapes.specs.declared.keyword.Keyword.TheVariants.{Split}
+use Rattle.line_shapes.specs.declared.keyword.Keyword.TheVariants.{Split, Worker}
 use Rattle.line_shapes.specs.declared.place.Kind.{Kind}
 use Rattle.line_shapes.specs.declared.place.Place.{Place}
 use Rattle.line_shapes.specs.declared.place.Place.TheVariants.{New, Used}
 use Rattle.line_rules.specs.Entering.{key_of, most_more_of}
 use Rattle.line_rules.specs.Faults.{AreInRange, IsComplete, IsDeclaredIn, IsFew, IsFirstOfBody, IsOfSize}
 use Rattle.line_rules.specs.Faults.{IsFirstOfHead, IsFreeIn, IsLeastOf, IsNew, IsWithinLimit, Keep}
-use Rattle.line_rules.specs.Faults.{MayStand, Meets, most_bytes}
+use Rattle.line_rules.specs.Faults.{MayStand, Meets, most_bytes, most_slots}
 use Rattle.line_rules.specs.Known.{Known}
 use Rattle.line_rules.specs.Names.{IsNamed, name_demand}
 use Rattle.line_rules.specs.Long.{HasFirst, IsWorst, StandsFor, WordsHave, said}
@@ -74,13 +74,19 @@ few_less : (o : Option ℕ) (m n : ℕ) → m ≤ n → IsFew o n → IsFew o m
 few_less None m n le few = tt
 few_less (Some most) m n le few = omega (arith, le, few)
 
+small_same : (i most : ℕ) (ws xs vs : List Word) → i < length ws
+    → number_of (get_or (ws ++ xs) i []) ≤ most → number_of (get_or (ws ++ vs) i []) ≤ most
+small_same i most ws xs vs inside small =
+    subst (λ (w : Word). number_of w ≤ most)
+    (get_or_append_left ws xs [] i inside ∙ sym (get_or_append_left ws vs [] i inside)) small
+
 size_same : (version : Version) (word : Keyword) (ws xs vs : List Word)
     → length (places_of word) ≤ length ws → IsOfSize version word (ws ++ xs)
     → IsOfSize version word (ws ++ vs)
 size_same version Split ws xs vs past small =
-    let second : 1 < length ws = omega (arith, past) in
-    subst (λ (w : Word). number_of w ≤ most_bytes version)
-    (get_or_append_left ws xs [] 1 second ∙ sym (get_or_append_left ws vs [] 1 second)) small
+    small_same 1 (most_bytes version) ws xs vs (omega (arith, past)) small
+size_same version Worker ws xs vs past small =
+    small_same 2 (most_slots version) ws xs vs (omega (arith, past)) small
 size_same version word ws xs vs past small = tt
 
 head_same : (section : Section) (rows : List Statement) (s t : Statement) → key_of s ≡ key_of t

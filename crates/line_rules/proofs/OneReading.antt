@@ -2,6 +2,7 @@
 use Rattle.std.proofs.Common.{ℕ, List, [], ◌∷◌, ◌≡◌, ◌≤◌, ◌<◌, ◌+◌, ◌⊎◌, ◌∙◌, inl, inr, length, refl}
 use Rattle.std.proofs.Common.{sym, ap, arith}
 use Rattle.std.specs.Prelude.{◌==◌, if◌then◌else◌}
+use Rattle.text_lines.specs.Streams.{longest}
 use Rattle.text_lines.specs.Texts.{Line}
 use Rattle.text_lines.specs.Faults.{number_of_fault}
 use Rattle.text_lines.specs.declared.fault.Fault.{Fault}
@@ -11,7 +12,7 @@ use Rattle.text_lines.specs.declared.fault.Fault.TheVariants.{SecondEntry, NoPri
 use Rattle.text_lines.specs.declared.fault.Fault.TheVariants.{Unprintable, AfterEnd}
 use Rattle.line_shapes.specs.Lines.{Statement}
 use Rattle.line_shapes.proofs.OneStatement.{says-unique}
-use Rattle.line_rules.specs.Texts.{Declare, IsLeastAt, IsLeastFault, ReadsAs, longest}
+use Rattle.line_rules.specs.Texts.{Declare, IsLeastAt, IsLeastFault, ReadsAs}
 use Rattle.line_rules.specs.declared.purpose.Purpose.{Purpose}
 
 -- ---- the statements
@@ -78,7 +79,7 @@ least_at-unique purpose text i j f g a b = by (a.least j g b.applies) (b.least i
 record IsOfLength (text : List ℕ) (line : ℕ) (f : Fault) : Type 0 where
   pub fault : f ≡ TooLong
   pub whole : line ≡ 0
-  pub long : longest < length text
+  pub long : longest text < length text
 
 -- or it is that of a line
 record IsOfLine (purpose : Purpose) (text : List ℕ) (line : ℕ) (f : Fault) : Type 0 where

@@ -5,13 +5,14 @@ use Rattle.std.proofs.Common.{◌==◌, drop_of_length-le}
 use Rattle.std.proofs.Math.Seq.{drop-cons, take-suc}
 use Rattle.std.proofs.lemmas.Bool.{cases_lt, cases_eq}
 use Rattle.std.proofs.lemmas.List.Splits.{length-slice_split}
+use Rattle.text_lines.specs.Streams.{longest}
 use Rattle.text_lines.specs.Texts.{Line, lines_of}
 use Rattle.text_lines.specs.declared.fault.Fault.{Fault}
 use Rattle.text_lines.specs.declared.fault.Fault.TheVariants.{Misplaced, TooLong}
 use Rattle.line_shapes.specs.Lines.{Statement}
 use Rattle.line_rules.specs.Texts.{Declare}
 use Rattle.line_rules.specs.Known.{Known, entered, known_at}
-use Rattle.line_rules.specs.Texts.{Applies, FirstHas, IsLeastAt, IsLeastFault, LineHas, RestHas, longest}
+use Rattle.line_rules.specs.Texts.{Applies, FirstHas, IsLeastAt, IsLeastFault, LineHas, RestHas}
 use Rattle.line_rules.specs.Faults.{IsLeastOf}
 use Rattle.line_rules.proofs.OneReading.{declare-unique}
 use Rattle.line_rules.proofs.Steps.{declare-step, known_at-step}
@@ -129,7 +130,7 @@ read_more purpose text left line after n k new read split more takes =
 
 -- the least fault of the line that is left first is the text's
 least_first : (purpose : Purpose) (text : List ℕ) (left : List Line) (n : ℕ) (k : Known) (f : Fault)
-    → length text ≤ longest → IsReadTo purpose text left n k → IsLeastOf (FirstHas k left) f
+    → length text ≤ longest text → IsReadTo purpose text left n k → IsLeastOf (FirstHas k left) f
     → IsLeastAt purpose text n f
 least_first purpose text left n k f short read least = record {
   short = short;
@@ -154,7 +155,7 @@ least_first purpose text left n k f short read least = record {
 
 pub least_at : (purpose : Purpose) (text : List ℕ) (left : List Line) (line : Line) (after : List Line)
     (n : ℕ) (k : Known)
-    (f : Fault) → length text ≤ longest → IsReadTo purpose text left n k → left ≡ line ∷ after
+    (f : Fault) → length text ≤ longest text → IsReadTo purpose text left n k → left ≡ line ∷ after
     → 0 < length after
     → IsLeastOf (LineHas k line) f → IsLeastAt purpose text n f
 least_at purpose text left line after n k f short read split more least =
@@ -162,7 +163,7 @@ least_at purpose text left line after n k f short read split more least =
     (subst (λ P. IsLeastOf P f) (sym (ap (FirstHas k) split ∙ feed_follows k line after more)) least)
 
 pub least_at_rest : (purpose : Purpose) (text : List ℕ) (left : List Line) (line : Line) (n : ℕ) (k : Known)
-    (f : Fault) → length text ≤ longest → IsReadTo purpose text left n k → left ≡ line ∷ []
+    (f : Fault) → length text ≤ longest text → IsReadTo purpose text left n k → left ≡ line ∷ []
     → IsLeastOf (RestHas k line) f
     → IsLeastAt purpose text n f
 least_at_rest purpose text left line n k f short read split least =
@@ -184,7 +185,7 @@ least_fault purpose text n f h = (n, refl, h)
 
 pub error_of_text : (purpose : Purpose) (text : List ℕ) (left : List Line) (line : Line)
     (after : List Line) (n : ℕ) (k : Known)
-    (err : LineError) → length text ≤ longest → IsReadTo purpose text left n k → left ≡ line ∷ after
+    (err : LineError) → length text ≤ longest text → IsReadTo purpose text left n k → left ≡ line ∷ after
     → 0 < length after → IsLeastError (LineHas k line) err
     → IsReadingError purpose text (error_at (n + 1) err)
 error_of_text purpose text left line after n k (error.Fault f) short read split more least =
@@ -217,7 +218,7 @@ all_faultless purpose text n k read ended i f applies =
       ]
     ]
 
-all_read : (purpose : Purpose) (text : List ℕ) (n : ℕ) (k : Known) → length text ≤ longest
+all_read : (purpose : Purpose) (text : List ℕ) (n : ℕ) (k : Known) → length text ≤ longest text
     → IsReadTo purpose text ([] ∷ []) n k → k.section ≡ Ended → IsAllRead purpose text k
 all_read purpose text n k short read ended = record {
   statements = read.before;
@@ -231,7 +232,7 @@ all_read purpose text n k short read ended = record {
 }
 
 pub reads_all : (purpose : Purpose) (text : List ℕ) (left : List Line) (n : ℕ) (k : Known)
-    → length text ≤ longest
+    → length text ≤ longest text
     → IsReadTo purpose text left n k → left ≡ [] ∷ [] → k.section ≡ Ended → IsAllRead purpose text k
 reads_all purpose text left n k short read empty ended =
     all_read purpose text n k short (subst (λ ls. IsReadTo purpose text ls n k) empty read) ended

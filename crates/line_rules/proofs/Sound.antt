@@ -19,7 +19,7 @@ use Rattle.line_rules.specs.declared.entering.Entering.{Entering}
 use Rattle.line_rules.specs.declared.entering.Entering.TheVariants.{Nothing, InTurn, Word as ByWord}
 use Rattle.line_rules.specs.Entered.{AreFit, AreSound, IsFitIn, IsSound, IsSoundBefore}
 use Rattle.line_rules.specs.Entering.{entered_by, entered_of, entering_of, key_of}
-use Rattle.line_rules.specs.Faults.{IsDeclaredIn, IsFit, IsFreeIn, Keep, KeepsTo, MayStand}
+use Rattle.line_rules.specs.Faults.{IsFit, Keep, KeepsTo}
 use Rattle.line_rules.specs.Known.{HasRow, IsDeclared, Known, entered, keys_of, version_after}
 use Rattle.line_rules.specs.Names.{IsNameOf, IsNamed, name_demand}
 use Rattle.line_rules.specs.Sections.{edition_of, section_after, section_of, version_by}

@@ -10,7 +10,9 @@ use Rattle.line_rules.specs.declared.entering.Entering.TheVariants.{Pair as ByPa
 use Rattle.line_rules.specs.declared.entering.Follow.{Follow}
 use Rattle.line_rules.specs.declared.entering.Follow.TheVariants.{Any, Centre, Counts}
 use Rattle.line_rules.specs.declared.purpose.Purpose.{Purpose}
-use Rattle.line_rules.specs.declared.purpose.Purpose.TheVariants.{Running}
+use Rattle.line_rules.specs.declared.edition.Version.{Version}
+use Rattle.line_rules.specs.declared.edition.Version.TheVariants.{One, Two, Three}
+use Rattle.line_rules.specs.declared.purpose.Purpose.TheVariants.{Checking, Planning, Running}
 
 -- by what a line is entered
 abbrev pub entering_of : Keyword → Entering
@@ -50,26 +52,37 @@ abbrev pub most_workers : Purpose → ℕ
 most_workers Running = 32
 most_workers purpose = 256
 
+-- how many splits a text has that is read to plan, or to check a plan
+abbrev pub planned_splits : Version → ℕ
+planned_splits One = 1024
+planned_splits Two = 1024
+planned_splits Three = 131072
+
+abbrev pub most_splits : Version → Purpose → ℕ
+most_splits version Checking = planned_splits version
+most_splits version Planning = planned_splits version
+most_splits version purpose = 1024
+
 -- how many lines of a keyword there may be; of commands, how many in all
-abbrev pub most_of : Purpose → Keyword → Option ℕ
-most_of purpose keyword.Centre = Some 8
-most_of purpose keyword.Rack = Some 32
-most_of purpose keyword.Worker = Some (most_workers purpose)
-most_of purpose keyword.Split = Some 1024
-most_of purpose keyword.Doc = Some 65536
-most_of purpose keyword.Wave = Some 65536
-most_of purpose keyword.Done = Some 65536
-most_of purpose keyword.Fail = Some 65536
-most_of purpose keyword.Withdraw = Some 65536
-most_of purpose keyword.Die = Some 65536
-most_of purpose keyword.Join = Some 65536
-most_of purpose keyword.Add = Some 65536
-most_of purpose keyword.Lose = Some 65536
-most_of purpose keyword.Sweep = Some 65536
-most_of purpose keyword.Reduce = Some 65536
-most_of purpose keyword.Copies = Some 65536
-most_of purpose keyword.Backup = Some 65536
-most_of purpose k = None
+abbrev pub most_of : Version → Purpose → Keyword → Option ℕ
+most_of version purpose keyword.Centre = Some 8
+most_of version purpose keyword.Rack = Some 32
+most_of version purpose keyword.Worker = Some (most_workers purpose)
+most_of version purpose keyword.Split = Some (most_splits version purpose)
+most_of version purpose keyword.Doc = Some 65536
+most_of version purpose keyword.Wave = Some 65536
+most_of version purpose keyword.Done = Some 65536
+most_of version purpose keyword.Fail = Some 65536
+most_of version purpose keyword.Withdraw = Some 65536
+most_of version purpose keyword.Die = Some 65536
+most_of version purpose keyword.Join = Some 65536
+most_of version purpose keyword.Add = Some 65536
+most_of version purpose keyword.Lose = Some 65536
+most_of version purpose keyword.Sweep = Some 65536
+most_of version purpose keyword.Reduce = Some 65536
+most_of version purpose keyword.Copies = Some 65536
+most_of version purpose keyword.Backup = Some 65536
+most_of version purpose k = None
 
 -- and how many words may follow those in the places of a line
 abbrev pub most_more_of : Keyword → Option ℕ

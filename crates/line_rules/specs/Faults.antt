@@ -113,7 +113,7 @@ counted_of k word = counted_by (entering_of word) k word
 
 -- there may be one line more of its keyword, and no more words follow than may
 pub record IsWithinLimit (k : Known) (s : Statement) : Type 0 where
-  pub room : IsFewer (most_of k.purpose s.keyword) (counted_of k s.keyword)
+  pub room : IsFewer (most_of k.version k.purpose s.keyword) (counted_of k s.keyword)
   pub few : IsFew (most_more_of s.keyword) (length (tail_words s))
 
 -- the most bytes of a split: 64 MiB, and from version 3 on 8 GiB
@@ -122,9 +122,16 @@ most_bytes One = 67108864
 most_bytes Two = 67108864
 most_bytes Three = 8589934592
 
--- these words after a split's keyword give it no more bytes than that
+-- the most slots of a worker: 16, and from version 3 on 255
+abbrev pub most_slots : Version → ℕ
+most_slots One = 16
+most_slots Two = 16
+most_slots Three = 255
+
+-- these words after their keyword give a split no more bytes, and a worker no more slots, than that
 abbrev pub IsOfSize : Version → Keyword → List Word → Type 0
 IsOfSize version keyword.Split ws = number_of (slice_index_or ws 1 []) ≤ most_bytes version
+IsOfSize version keyword.Worker ws = number_of (slice_index_or ws 2 []) ≤ most_slots version
 IsOfSize version k ws = Unit {0}
 
 -- each number is within the range of its place, in this version

@@ -1,6 +1,7 @@
 -- What is read of a text, line by line.
 use Rattle.std.specs.Prelude.{ℕ, List, [], ◌∷◌, ◌≡◌, ◌≢◌, ◌≤◌, length, take}
 use Rattle.std.specs.List.{All}
+use Rattle.text_lines.specs.Streams.{longest}
 use Rattle.text_lines.specs.Texts.{IsPrintable, Line, Word, lines_of}
 use Rattle.text_lines.specs.declared.fault.Fault.{Fault}
 use Rattle.line_shapes.specs.Keywords.{spelling_of}
@@ -8,7 +9,7 @@ use Rattle.line_shapes.specs.Lines.{Says, Statement, words_in}
 use Rattle.line_shapes.specs.declared.keyword.Keyword.{Keyword}
 use Rattle.line_rules.specs.Faults.{IsFit, IsLeastOf}
 use Rattle.line_rules.specs.Known.{Known, entered, known_at}
-use Rattle.line_rules.specs.Texts.{IsLegible, IsLeastFault, ReadsAs, longest}
+use Rattle.line_rules.specs.Texts.{IsLegible, IsLeastFault, ReadsAs}
 use Rattle.line_rules.specs.declared.purpose.Purpose.{Purpose}
 use Rattle.line_rules.specs.declared.line_reader.LineError.{LineError}
 use Rattle.line_rules.specs.declared.line_reader.LineError.TheVariants as error
@@ -65,7 +66,7 @@ pub record IsAllRead (purpose : Purpose) (text : List ℕ) (k : Known) : Type 0 
 -- the fault that is answered is the least of the text; of one that is too long memory wants nothing
 abbrev pub IsReadingError : Purpose → List ℕ → ReadingError → Type 0
 IsReadingError purpose text (reading.Text fault) = IsLeastFault purpose text fault.line fault.number
-IsReadingError purpose text reading.Memory = length text ≤ longest
+IsReadingError purpose text reading.Memory = length text ≤ longest text
 
 -- the error of a line as one of its text
 abbrev pub error_at : ℕ → LineError → ReadingError

@@ -1,6 +1,7 @@
 -- The faults of a text: which line has which fault, in view of the lines before it.
 use Rattle.std.specs.Prelude.{ℕ, List, [], ◌∷◌, ◌≡◌, ◌≢◌, ◌+◌, ◌≤◌, ◌<◌, ◌⊎◌, length, take, drop}
 use Rattle.std.specs.List.{All}
+use Rattle.text_lines.specs.Streams.{longest}
 use Rattle.text_lines.specs.Texts.{IsPrintable, Line, lines_of}
 use Rattle.text_lines.specs.Faults.{number_of_fault}
 use Rattle.text_lines.specs.declared.fault.Fault.{Fault}
@@ -55,12 +56,9 @@ Applies purpose text i f = (before : List Statement) × Declare (take i (lines_o
 
 -- ---- the whole text
 
-abbrev pub longest : ℕ
-longest = 16777216
-
 -- no fault applies
 pub record IsFaultless (purpose : Purpose) (text : List ℕ) : Type 0 where
-  pub short : length text ≤ longest
+  pub short : length text ≤ longest text
   pub none : (i : ℕ) (f : Fault) → Applies purpose text i f → ⊥
 
 -- the statements of a text without a fault: each line but what follows the last line feed says one
@@ -71,12 +69,12 @@ pub record ReadsAs (purpose : Purpose) (text : List ℕ) (ss : List Statement) :
 
 -- line i has the fault, no line before it has one, and it has none of a lower number
 pub record IsLeastAt (purpose : Purpose) (text : List ℕ) (i : ℕ) (f : Fault) : Type 0 where
-  pub short : length text ≤ longest
+  pub short : length text ≤ longest text
   pub applies : Applies purpose text i f
   pub least : (j : ℕ) (g : Fault) → Applies purpose text j g →
       (i < j) ⊎ ((i ≡ j) × (number_of_fault f ≤ number_of_fault g))
 
 -- the first faulty line, counted from 1, and in it the lowest number; line 0 for a text that is too long
 abbrev pub IsLeastFault : Purpose → List ℕ → ℕ → Fault → Type 0
-IsLeastFault purpose text line TooLong = (line ≡ 0) × (longest < length text)
+IsLeastFault purpose text line TooLong = (line ≡ 0) × (longest text < length text)
 IsLeastFault purpose text line f = (i : ℕ) × (line ≡ i + 1) × IsLeastAt purpose text i f

@@ -2,8 +2,9 @@ ghost use Rattle.std.specs.Prelude.{◌≡◌};
 ghost use Rattle.line_rules.specs.Entering.{entering_of as entering, follow_of as follow};
 ghost use Rattle.line_rules.specs.Entering.{is_priced as priced};
 ghost use Rattle.line_rules.specs.Entering.{most_more_of as most_words, most_of as most};
-ghost use Rattle.line_rules.specs.Entering.{most_workers as workers};
+ghost use Rattle.line_rules.specs.Entering.{most_splits as splits, most_workers as workers};
 
+use crate::edition::Version;
 use crate::purpose::Purpose;
 use line_shapes::Keyword;
 
@@ -52,8 +53,8 @@ pub fn entering_of(keyword: Keyword) -> Entering
 }
 
 /// How many lines of a keyword there may be, where there is a limit; of commands, how many in all.
-pub fn most_of(purpose: Purpose, keyword: Keyword) -> Option<usize>
-    ensures { result ≡ most purpose keyword }
+pub fn most_of(version: Version, purpose: Purpose, keyword: Keyword) -> Option<usize>
+    ensures { result ≡ most version purpose keyword }
 {
     match keyword {
         Keyword::Problem | Keyword::Script | Keyword::Job | Keyword::Barred => None,
@@ -63,7 +64,7 @@ pub fn most_of(purpose: Purpose, keyword: Keyword) -> Option<usize>
         Keyword::Centre => Some(8),
         Keyword::Rack => Some(32),
         Keyword::Worker => Some(most_workers(purpose)),
-        Keyword::Split => Some(1024),
+        Keyword::Split => Some(most_splits(version, purpose)),
         Keyword::Doc | Keyword::Wave | Keyword::Done | Keyword::Fail => Some(65_536),
         Keyword::Withdraw | Keyword::Die | Keyword::Join | Keyword::Add => Some(65_536),
         Keyword::Lose | Keyword::Sweep | Keyword::Reduce | Keyword::Copies => Some(65_536),
@@ -77,6 +78,16 @@ fn most_workers(purpose: Purpose) -> usize
     match purpose {
         Purpose::Checking | Purpose::Planning | Purpose::Playing => 256,
         Purpose::Running => 32,
+    }
+}
+
+fn most_splits(version: Version, purpose: Purpose) -> usize
+    ensures { result ≡ splits version purpose }
+{
+    match (purpose, version) {
+        (Purpose::Checking | Purpose::Planning, Version::Three) => 131_072,
+        (Purpose::Checking | Purpose::Planning, Version::One | Version::Two) => 1024,
+        (Purpose::Playing | Purpose::Running, _) => 1024,
     }
 }
 

@@ -1,11 +1,12 @@
 ghost use Rattle.std.specs.Prelude.{◌≡◌, ◌≢◌, ◌++◌, ◌≤◌, ◌↔◌, IfOk, IsTrue, MatchOption, OnErr, OnOk, Some};
-ghost use Rattle.std.specs.Prelude.{length, []};
+ghost use Rattle.std.specs.Prelude.{length, slice_index_or, ◌<◌, []};
+ghost use Rattle.text_lines.specs.Texts.{number_of, IsNumber};
 ghost use Rattle.line_shapes.specs.Lines.{statement_of, IsInRange, Statement};
 ghost use Rattle.line_shapes.specs.Places.{places_of};
 ghost use Rattle.line_rules.specs.Entering.{command_of, entered_of, entering_of as entering};
 ghost use Rattle.line_rules.specs.Entering.{most_of as most_in};
 ghost use Rattle.line_rules.specs.Faults.{IsFirst, centres_in as centres, Fails, IsFewer, IsFit, IsLeastOf};
-ghost use Rattle.line_rules.specs.Faults.{AreInRange, IsOfSize, most_bytes};
+ghost use Rattle.line_rules.specs.Faults.{AreInRange, IsOfSize, most_bytes, most_slots};
 ghost use Rattle.line_rules.specs.Faults.{IsNew, IsFirstOfBody, IsPricedBefore, IsComplete};
 ghost use Rattle.line_rules.specs.Faults.{Keep, IsWithinLimit, MayStand, counted_of};
 ghost use Rattle.line_rules.specs.declared.entering.Entering.TheVariants.{Nothing};
@@ -196,9 +197,10 @@ impl<'t> KnownLines<'t> {
 
     fn has_room(&self, line: &KeyedLine<'_, '_>) -> bool
         ensures { IsTrue result
-            ↔ IsFewer (most_in self.now.purpose line.now.keyword) (counted_of self.now line.now.keyword) }
+            ↔ IsFewer (most_in self.now.version self.now.purpose line.now.keyword)
+            (counted_of self.now line.now.keyword) }
     {
-        let Some(most) = most_of(self.purpose, line.keyword) else {
+        let Some(most) = most_of(self.version, self.purpose, line.keyword) else {
             return true;
         };
         match entering_of(line.keyword) {
@@ -307,15 +309,38 @@ fn most_bytes(version: Version) -> u64
     }
 }
 
-// Whether the line gives a split no more bytes than it may have in a text of the version. The word of the
-// bytes is a number, since the line is in range.
+// The most slots of a worker in a text of the version.
+fn most_slots(version: Version) -> u64
+    ensures { result ≡ most_slots version }
+{
+    match version {
+        Version::One | Version::Two => 16,
+        Version::Three => 255,
+    }
+}
+
+// Whether the line gives a split no more bytes, and a worker no more slots, than they may have in a text of
+// the version. The word of the bytes or of the slots is a number, since the line is in range.
 fn is_of_size(version: Version, line: &KeyedLine<'_, '_>) -> bool
     requires { IsInRange (statement_of line.now) }
     ensures { IsTrue result ↔ IsOfSize version line.now.keyword (statement_of line.now).words }
 {
-    match (line.keyword, line.words.get(1)) {
-        (Keyword::Split, Some(word)) => is_within(word, 0, most_bytes(version)),
+    match line.keyword {
+        Keyword::Split => is_at_most(line, 1, most_bytes(version)),
+        Keyword::Worker => is_at_most(line, 2, most_slots(version)),
         _ => true,
+    }
+}
+
+// Whether the number at a place of the line, if it has that place, is at most so much.
+fn is_at_most(line: &KeyedLine<'_, '_>, place: usize, most: u64) -> bool
+    requires { place < length line.now.words.now
+        → IsNumber (slice_index_or (statement_of line.now).words place []) }
+    ensures { IsTrue result ↔ number_of (slice_index_or (statement_of line.now).words place []) ≤ most }
+{
+    match line.words.get(place) {
+        Some(word) => is_within(word, 0, most),
+        None => true,
     }
 }
 

@@ -5,7 +5,8 @@ ghost use Rattle.line_rules.specs.Faults.{IsLeastOf};
 ghost use Rattle.line_rules.specs.Known.{known_at};
 ghost use Rattle.line_rules.specs.Reading.{HasKeyword, IsAllRead, IsLeastError, IsReadingError, Takes};
 ghost use Rattle.line_rules.specs.Reading.{error_at};
-ghost use Rattle.line_rules.specs.Texts.{LineHas, RestHas, longest};
+ghost use Rattle.line_rules.specs.Texts.{LineHas, RestHas};
+ghost use Rattle.text_lines.specs.Streams.{longest};
 ghost use Rattle.line_rules.specs.declared.section.Section.TheVariants.{Ended};
 ghost use Rattle.line_rules.specs.declared.line_reader.LineError.TheVariants.{Memory};
 ghost use Rattle.line_rules.specs.declared.line_reader.ReadingError.TheVariants as reading;
@@ -15,9 +16,7 @@ use crate::one_line::fit_line_in;
 use crate::purpose::Purpose;
 use crate::section::Section;
 use std::alloc::{AllocError, Global};
-use text_lines::{Fault, TextFault, has_printable_lines, split_line};
-
-const MAX_TEXT_BYTES: usize = 16_777_216;
+use text_lines::{Fault, TextFault, has_printable_lines, longest, split_line};
 
 /// Why a text was not read.
 #[derive(Clone, Copy, Debug, PartialEq, Eq)]
@@ -61,7 +60,7 @@ pub fn read_lines(
     ensures ok { IfOk result (IsAllRead purpose text.entry.now) }
     ensures err { IfErr result (IsReadingError purpose text.entry.now) }
 {
-    if text.len() > MAX_TEXT_BYTES {
+    if text.len() > longest(text) {
         return Err(fault_in(0, Fault::TooLong));
     }
     let mut known = KnownLines::before(alloc, purpose, text.len())?;
@@ -76,7 +75,7 @@ fn take_lines<'t>(
     text: &'t [u8],
     known: &mut KnownLines<'t>,
 ) -> Result<(), ReadingError>
-    requires short { length text.now ≤ longest }
+    requires short { length text.now ≤ longest text.now }
     requires first { known.old ≡ known_at known.old.purpose [] }
     ensures ok { OnOk result (IsAllRead known.old.purpose text.entry.now known.new) }
     ensures err { IfErr result (IsReadingError known.old.purpose text.entry.now) }

@@ -6,15 +6,15 @@ use Rattle.line_shapes.specs.declared.place.Kind.TheVariants as kind
 use Rattle.line_shapes.specs.declared.place.Place.{Place}
 use Rattle.line_shapes.specs.declared.place.Place.TheVariants.{New, Used, Number, Text}
 
--- what follows each keyword; a split has up to so many bytes in the newest version of a text, and `line_rules`
--- asks for fewer in older ones
+-- what follows each keyword; a worker has up to so many slots and a split up to so many bytes in the newest
+-- version of a text, and `line_rules` asks for fewer in older ones
 abbrev pub places_of : Keyword → List Place
 places_of keyword.Problem = Number 1 3 ∷ []
 places_of keyword.Script = Number 1 3 ∷ []
 places_of keyword.Job = Number 1 3 ∷ []
 places_of keyword.Centre = New ∷ []
 places_of keyword.Rack = New ∷ []
-places_of keyword.Worker = New ∷ Used kind.Rack ∷ Number 0 16 ∷ []
+places_of keyword.Worker = New ∷ Used kind.Rack ∷ Number 0 255 ∷ []
 places_of keyword.Split = New ∷ Number 0 8589934592 ∷ []
 places_of keyword.Barred = Used kind.Split ∷ Used kind.Worker ∷ []
 places_of keyword.Dead = Used kind.Worker ∷ []

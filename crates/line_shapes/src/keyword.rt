@@ -106,7 +106,7 @@ impl Keyword {
         match self {
             Keyword::Problem | Keyword::Script | Keyword::Job => &[Place::Number(1, 3)],
             Keyword::Centre | Keyword::Rack => &[Place::New],
-            Keyword::Worker => &[Place::New, Place::Used(Kind::Rack), Place::Number(0, 16)],
+            Keyword::Worker => &[Place::New, Place::Used(Kind::Rack), Place::Number(0, 255)],
             Keyword::Split => &[Place::New, Place::Number(0, 8_589_934_592)],
             Keyword::Barred | Keyword::Start | Keyword::Add | Keyword::Lose => &[
                 Place::Used(Kind::Split),

@@ -24,8 +24,8 @@ whole_from racks slots copied splits texts parts silence same within workers of 
       tree = within;
       racks = workers;
       slots = few.few_slots;
-      few_splits = few.small_splits.few;
-      small = few.small_splits.each_small;
+      few_splits = few.few_splits;
+      small = few.small_splits;
       held = held;
       texts = of;
       some_parts = some;

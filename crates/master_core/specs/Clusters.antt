@@ -3,9 +3,11 @@ use Rattle.std.specs.Prelude.{ℕ, ◌≤◌, List, All, length, sum_by}
 use Rattle.std.specs.declared.alloc.Global.{Global}
 use Rattle.std.specs.declared.sync.Arc.{Arc}
 use Rattle.rack_tree.specs.Tree.{Tree}
-use Rattle.wave_problem.specs.Wave.{Split, AreSmallSplits}
+use Rattle.wave_problem.specs.declared.TheConstants.{MAX_SLOTS}
+use Rattle.wave_problem.specs.Wave.{Split, IsSmall}
 use Rattle.word_map.specs.Texts.{SplitDocuments}
 use Rattle.shuffle_reduce.specs.Gather.{values_of}
+use Rattle.master_state.specs.declared.TheConstants.{MAX_JOB_SPLITS}
 use Rattle.master_state.specs.States.{Cluster}
 
 -- the cluster of these parts
@@ -26,7 +28,8 @@ documents_in texts = sum_by (λ text. length text.documents) texts
 -- each worker has few slots, the splits are few and small, and the documents and the parts are few
 pub record AreFewAndSmall
     (slots : List ℕ) (splits : List Split) (texts : List SplitDocuments) (parts : ℕ) : Type 0 where
-  pub few_slots : All (λ n. n ≤ 16) slots
-  pub small_splits : AreSmallSplits splits
+  pub few_slots : All (λ n. n ≤ MAX_SLOTS) slots
+  pub few_splits : length splits ≤ MAX_JOB_SPLITS
+  pub small_splits : All IsSmall splits
   pub few_documents : documents_in texts ≤ 65536
   pub few_parts : parts ≤ 64

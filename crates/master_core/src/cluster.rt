@@ -1,10 +1,12 @@
 ghost use Rattle.std.specs.Prelude.{◌≡◌, ◌≤◌, ◌↔◌, IsTrue, length, map, All, IfOk};
 ghost use Rattle.std.specs.List.{range_with_len};
+ghost use Rattle.wave_problem.specs.declared.TheConstants.{MAX_SLOTS};
 ghost use Rattle.wave_problem.specs.Wave.{AreHeldWell};
 ghost use Rattle.shuffle_reduce.specs.Gather.{values_of};
 ghost use Rattle.master_state.specs.States.{IsWhole};
 ghost use Rattle.master_core.specs.Clusters.{AreFewAndSmall, cluster_from, documents_in};
 
+use master_state::MAX_JOB_SPLITS;
 use rack_tree::RackTree;
 use std::alloc::Global;
 use std::marker::Model;
@@ -174,6 +176,7 @@ fn are_few_and_small(
     ensures { IsTrue result ↔ AreFewAndSmall slots.now splits.now (values_of texts.now) parts }
 {
     have_few_slots(slots)
+        && splits.len() <= MAX_JOB_SPLITS
         && are_small_splits(splits)
         && have_few_documents(texts)
         && parts <= MAX_PARTS
@@ -194,7 +197,7 @@ fn have_few_documents(texts: &[Arc<SplitText>]) -> bool
 }
 
 fn have_few_slots(slots: &[u8]) -> bool
-    ensures { IsTrue result ↔ All (λ n. n ≤ 16) slots.now }
+    ensures { IsTrue result ↔ All (λ n. n ≤ MAX_SLOTS) slots.now }
 {
     slots.iter().all(|count| *count <= MAX_SLOTS)
 }

@@ -99,7 +99,7 @@ fn flag_splits(alloc: Global, engine: &mut Engine, entries: &[SplitEntry]) -> Re
         (flagged engine.new.wave.splits (flags_of entries.now) ≡ engine.new.wave.splits) }
 {
     for s in 0..engine.problem().splits() {
-        let split = SplitNo::new(s as u16);
+        let split = SplitNo::new(s as u32);
         let pending = flag_at(entries, s);
         if engine.problem().is_pending(split) != pending {
             engine.flag(alloc, split, pending)?;

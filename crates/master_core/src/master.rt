@@ -1,4 +1,5 @@
 ghost use Rattle.std.specs.Prelude.{◌≡◌, ◌<◌, ◌≤◌, [], not, is_some, IfOk, IfSome};
+ghost use Rattle.wave_problem.specs.declared.TheConstants.{MAX_SPLITS};
 ghost use Rattle.master_state.specs.States.{AreAllowed, opening};
 ghost use Rattle.master_state.specs.Tests.{next_part, next_worker};
 ghost use Rattle.master_state.specs.Refusals.{has_no_room, has_no_sweep, is_full, is_not_reducible};
@@ -157,7 +158,7 @@ impl Master {
 
     // Whether the history has no place left, or there are fewer attempts left than these.
     fn has_no_room(&self, count: usize) -> bool
-        requires { count ≤ 1024 }
+        requires { count ≤ MAX_SPLITS }
         ensures { result ≡ has_no_room self.now.setup self.now.state count }
     {
         self.has_no_place() || (self.limits.attempts as usize) < self.starts.len() + count

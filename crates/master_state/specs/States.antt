@@ -5,10 +5,11 @@ use Rattle.std.specs.List.{range_with_len}
 use Rattle.std.specs.Option.{option_map_or}
 use Rattle.rack_tree.specs.Tree.{Tree}
 use Rattle.rack_tree.specs.View as tree
-use Rattle.wave_problem.specs.declared.TheConstants.{MAX_SPLITS, MAX_SLOTS}
+use Rattle.wave_problem.specs.declared.TheConstants.{MAX_SLOTS}
 use Rattle.wave_problem.specs.Wave.{Split, IsSmall, AreHeldWell}
 use Rattle.word_map.specs.Texts.{SplitDocuments}
 use Rattle.worker_table.specs.Workers.{Workers, opening_workers}
+use Rattle.master_state.specs.declared.TheConstants.{MAX_JOB_SPLITS}
 use Rattle.master_state.specs.declared.states.Limits.{Limits}
 use Rattle.master_state.specs.declared.states.Start.{Start}
 use Rattle.master_state.specs.declared.states.SplitState.{SplitState}
@@ -71,7 +72,7 @@ pub record IsWhole (c : Cluster) : Type 0 where
   pub tree : tree.IsWithinLimits c.tree
   pub racks : length c.tree.rack_of ≡ length c.slots
   pub slots : All (λ n. n ≤ MAX_SLOTS) c.slots
-  pub few_splits : length c.splits ≤ MAX_SPLITS
+  pub few_splits : length c.splits ≤ MAX_JOB_SPLITS
   pub small : All IsSmall c.splits
   pub held : AreHeldWell (length c.slots) c.splits
   pub texts : map (λ text. text.split) c.texts ≡ range_with_len 0 (length c.splits)

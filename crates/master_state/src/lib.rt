@@ -14,3 +14,6 @@ pub mod states;
 pub use answers::{Answer, CommitError, Glance, Reply, Swept, Wave, Why};
 pub use events::Event;
 pub use states::{Attempt, Limits, PartState, SplitState, Start, Work};
+
+/// How many splits a job has at most.
+pub const MAX_JOB_SPLITS: usize = 1024;

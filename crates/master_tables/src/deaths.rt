@@ -96,7 +96,7 @@ fn drop_all(holders: &mut BlockMap, dead: &WorkerSet)
     ensures { holders.new ≡ map (without_all dead.now) holders.old }
 {
     for i in 0..holders.splits() {
-        drop_from(holders, SplitNo::new(i as u16), dead);
+        drop_from(holders, SplitNo::new(i as u32), dead);
     }
 }
 

@@ -64,7 +64,7 @@ pub fn all_split_lines<'h>(
 {
     let mut all = Vec::with_capacity(alloc, lines.len())?;
     for i in 0..lines.len() {
-        let split = SplitNo::new(i as u16);
+        let split = SplitNo::new(i as u32);
         all.push(split_line(&lines[i], &entries[i], holders.holders(split)))?;
     }
     Ok(all)
@@ -104,7 +104,7 @@ pub fn may_any_start(
         return false;
     }
     for i in 0..lines.len() {
-        let split = SplitNo::new(i as u16);
+        let split = SplitNo::new(i as u32);
         let line = split_line(&lines[i], &entries[i], holders.holders(split));
         if may_start(workers, &free, barred, split, &line) {
             return true;

@@ -129,7 +129,7 @@ fn texts_of(rt: &impl Abort, alloc: Global, rows: &[SplitRow<'_>]) -> Option<Vec
     let mut texts = Vec::new(alloc);
     for number in 0..rows.len() {
         assert!(rt; number < 1024);
-        let text = text_of(alloc, SplitNo::new(number as u16), rows[number].2)?;
+        let text = text_of(alloc, SplitNo::new(number as u32), rows[number].2)?;
         texts.push(Arc::new(alloc, text).ok()?).ok()?;
     }
     Some(texts)
@@ -226,7 +226,13 @@ pub fn answer(rt: &impl Abort, alloc: Global, job: &mut Job, call: Call) -> Opti
         Call::Die(worker) => Some(die(rt, job, WorkerNo::new(worker))),
         Call::Join(worker, split) => Some(join(rt, job, WorkerNo::new(worker), split)),
         Call::Add(split, worker) | Call::Lose(split, worker) | Call::Backup(split, worker) => {
-            Some(of_pair(rt, job, call, SplitNo::new(split), WorkerNo::new(worker)))
+            Some(of_pair(
+                rt,
+                job,
+                call,
+                SplitNo::new(u32::from(split)),
+                WorkerNo::new(worker),
+            ))
         }
     }
 }
@@ -326,7 +332,7 @@ fn join(rt: &impl Abort, job: &mut Job, worker: WorkerNo, split: Option<u16>) ->
     let mut set = SplitSet::new();
     if let Some(split) = split {
         assert!(rt; split < 1024);
-        set.put(SplitNo::new(split));
+        set.put(SplitNo::new(u32::from(split)));
     }
     let cluster = job.master.cluster();
     assert!(rt; worker.index() < cluster.slots().len() && set.are_below(cluster.splits().len()));

@@ -98,7 +98,7 @@ fn call_without_memory<L: Ledger + OfJob, R: Wait + Abort>(
 
 // The split and the attempt that a number draws.
 fn split_and_attempt(draw: u64) -> (SplitNo, AttemptNo) {
-    let split = SplitNo::new((draw / 16 % 2) as u16);
+    let split = SplitNo::new((draw / 16 % 2) as u32);
     let attempt = AttemptNo::new((1 + draw / 128 % 8) as u32);
     (split, attempt)
 }

@@ -78,7 +78,7 @@ fn add_split(state: SplitState, numbers: &mut Vec<usize>) -> Result<(), AllocErr
 fn add_splits(master: &Master, numbers: &mut Vec<usize>) -> Result<(), AllocError> {
     for number in 0..master.cluster().splits().len() {
         if number < 1024 {
-            add_split(master.state(SplitNo::new(number as u16)), numbers)?;
+            add_split(master.state(SplitNo::new(number as u32)), numbers)?;
         }
     }
     Ok(())
@@ -114,7 +114,7 @@ fn add_workers(problem: &Problem, numbers: &mut Vec<usize>) -> Result<(), AllocE
 
 fn add_holders(problem: &Problem, numbers: &mut Vec<usize>) -> Result<(), AllocError> {
     for number in 0..problem.splits() {
-        for holder in problem.holders(SplitNo::new(number as u16)) {
+        for holder in problem.holders(SplitNo::new(number as u32)) {
             numbers.push(holder.index())?;
         }
         numbers.push(1000)?;
@@ -126,7 +126,7 @@ fn add_holders(problem: &Problem, numbers: &mut Vec<usize>) -> Result<(), AllocE
 fn add_bars(problem: &Problem, numbers: &mut Vec<usize>) -> Result<(), AllocError> {
     for number in 0..problem.splits() {
         for worker in 0..problem.workers() {
-            let (split, worker) = (SplitNo::new(number as u16), WorkerNo::new(worker as u16));
+            let (split, worker) = (SplitNo::new(number as u32), WorkerNo::new(worker as u16));
             numbers.push(usize::from(problem.is_barred(split, worker)))?;
         }
     }

@@ -1,5 +1,6 @@
 -- What a call answers where it writes nothing, and what is so then.
-use Rattle.std.specs.Prelude.{ℕ, ◌≡◌, ◌<◌, List, length}
+use Rattle.std.specs.Prelude.{ℕ, ◌≡◌, ◌<◌, ◌≤◌, ◌⊎◌, List, length}
+use Rattle.direct_network.specs.declared.network.TheConstants.{MAX_SPLITS as MAX_DIRECT}
 use Rattle.wave_arrays.specs.declared.fit.RowsError.TheVariants.{Racks, Workers, Splits, Bars, Holders}
 use Rattle.wave_arrays.specs.declared.array_rows.WaveRows.{WaveRows}
 use Rattle.wave_arrays.specs.Claims.{AreStartsFit}
@@ -30,12 +31,17 @@ pub record IsPlanFit (rows : WaveRows) (network starts splits workers : ℕ) : T
   pub rows_fit : AreFit rows
   pub sized : AreSized rows starts splits workers
   pub known : network < 2
+  pub small : network ≡ 1 → length rows.splits.now ≤ MAX_DIRECT
 
 -- all that a check is given is in order
 pub record IsCheckFit (rows : WaveRows) (starts : List ℕ) (splits workers : ℕ) : Type 0 where
   pub rows_fit : AreFit rows
   pub sized : AreSized rows (length starts) splits workers
   pub known : AreStartsFit (length rows.workers.now) starts
+
+-- there is no such network, or it is the direct one, and that is not made for so many splits
+abbrev pub IsNoNetworkFor : ℕ → ℕ → Type 0
+IsNoNetworkFor splits network = (1 < network) ⊎ ((network ≡ 1) × (MAX_DIRECT < splits))
 
 -- what a plan is given has this fault and none before it; memory is wanting only where it has none
 abbrev pub IsFaultOfPlan : WaveRows → ℕ → ℕ → ℕ → ℕ → Fault → Type 0
@@ -44,7 +50,7 @@ IsFaultOfPlan rows network starts splits workers Length =
     AreFit rows × (AreSized rows starts splits workers → ⊥)
 IsFaultOfPlan rows network starts splits workers Starts = ⊥
 IsFaultOfPlan rows network starts splits workers Network =
-    AreFit rows × AreSized rows starts splits workers × (1 < network)
+    AreFit rows × AreSized rows starts splits workers × IsNoNetworkFor (length rows.splits.now) network
 IsFaultOfPlan rows network starts splits workers Memory = IsPlanFit rows network starts splits workers
 
 -- so it is of what a check is given

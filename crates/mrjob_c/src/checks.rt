@@ -1,8 +1,9 @@
 //! A check of a plan by its prices.
-ghost use Rattle.std.specs.Prelude.{◌≡◌, ◌≢◌, ◌≤◌, length, IfErr, IfOk, OnOk};
+ghost use Rattle.std.specs.Prelude.{◌≡◌, ◌≢◌, ◌<◌, ◌≤◌, ◌^◌, length, IfErr, IfOk, OnOk};
 ghost use Rattle.price_certificate.specs.Certificate.{claim, HasOneSize};
+ghost use Rattle.wave_arrays.specs.declared.TheConstants.{MAX_SPLITS};
 ghost use Rattle.mrjob_c.specs.Status.{IsCheckFit, IsFaultOfCheck, TellsCheckFault};
-ghost use Rattle.mrjob_c.specs.Checks.{claim_in, IsCertifiedBy, IsJudged, IsRefusedBy, Names};
+ghost use Rattle.mrjob_c.specs.Checks.{claim_in, IsCertifiedBy, IsJudged, IsRefusedBy, Names, split_in};
 
 use crate::status::{Fault, OK, REFUSED, are_sized, status_of};
 use certificate_checker::certify;
@@ -116,7 +117,8 @@ fn judge(
 }
 
 fn judged(problem: &Problem, plan: &Plan, prices: &Prices) -> Verdict
-    requires { HasOneSize (claim problem.now plan.now.starts prices.now) plan.now.workers }
+    requires few { length problem.now.splits ≤ MAX_SPLITS }
+    requires sizes { HasOneSize (claim problem.now plan.now.starts prices.now) plan.now.workers }
     ensures { IsJudged (claim problem.now plan.now.starts prices.now) result }
 {
     match certify(problem, plan, prices) {
@@ -132,6 +134,7 @@ fn judged(problem: &Problem, plan: &Plan, prices: &Prices) -> Verdict
 }
 
 fn refused(condition: Condition) -> Verdict
+    requires { split_in condition < 2 ^ 16 }
     ensures names { Names result condition }
     ensures refused { result.condition ≢ 0 }
 {
@@ -149,6 +152,7 @@ fn refused(condition: Condition) -> Verdict
 }
 
 fn of_split(split: SplitNo) -> u16
+    requires { split < 2 ^ 16 }
     ensures { result ≡ split }
 {
     split.index() as u16

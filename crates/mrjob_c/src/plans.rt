@@ -111,7 +111,7 @@ fn kind_of(
     }
     match network {
         0 => Ok(NetworkKind::Racks),
-        1 => Ok(NetworkKind::Direct),
+        1 if rows.splits.len() <= direct_network::MAX_SPLITS => Ok(NetworkKind::Direct),
         _ => Err(Fault::Network),
     }
 }
@@ -129,6 +129,7 @@ fn plan_fit(alloc: Global, rows: &WaveRows<'_>, kind: NetworkKind) -> Result<Pla
     let problem = build_problem(alloc, rows)?;
     match plan_with(alloc, &problem, kind) {
         Ok(planned) => Ok(planned),
+        // (a network that is not made for so many splits has been refused)
         Err(_) => Err(AllocError),
     }
 }

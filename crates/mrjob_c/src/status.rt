@@ -17,7 +17,7 @@ pub(crate) enum Fault {
     Length,
     // A start is on no worker.
     Starts,
-    // There is no such network.
+    // There is no such network, or it is the direct one, and that is not made for so many splits.
     Network,
     // There is no memory.
     Memory,

@@ -1,3 +1,5 @@
+-- the reward as the cost of an arc
+pub mod Reward
 -- arcs in a list, sums at a node, and depths along a way
 pub mod Arcs
 pub mod Sums

@@ -1,6 +1,5 @@
 //! Plans a wave over a network that each wave has.
 ghost use Rattle.std.specs.Prelude.{◌≡◌, ◌+◌, ◌<◌, ◌≤◌, length, map, true, IfOk};
-ghost use Rattle.wave_problem.specs.declared.TheConstants.{MAX_SPLITS};
 ghost use Rattle.flow_network.specs.Flows.{AreArcs};
 ghost use Rattle.std.specs.List.{AllPass};
 ghost use Rattle.network_prices.specs.Layers.{nodes_from};
@@ -17,7 +16,8 @@ use std::alloc::{AllocError, Global};
 use wave_problem::{Plan, Problem};
 
 /// A plan with prices that certify it: it starts as many splits as any admissible assignment, at the
-/// least cost among those. It takes one augmentation for each pending split.
+/// least cost among those. It takes one augmentation for each pending split. A problem that is too large for
+/// its network is answered as where memory is wanting.
 pub fn priced_plan<N: WaveNetwork>(
     alloc: Global,
     problem: &Problem,
@@ -49,12 +49,12 @@ fn pending_nodes<L: Layout>(
         ≡ pending_splits problem.now) }
     ensures members { IfOk result
         (λ nodes. AllPass (L.is_member network.now.layout) nodes.items) }
-    ensures few { IfOk result (λ nodes. length nodes.items ≤ MAX_SPLITS) }
+    ensures few { IfOk result (λ nodes. length nodes.items ≤ L.node_count network.now.layout) }
 {
     let layout = network.layout();
     let mut nodes = Vec::with_capacity(alloc, problem.splits())?;
     for i in 0..problem.splits() {
-        if problem.is_pending(SplitNo::new(i as u16)) {
+        if problem.is_pending(SplitNo::new(i as u32)) {
             nodes.push(layout.node(i))?;
         }
     }

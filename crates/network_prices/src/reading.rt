@@ -1,5 +1,5 @@
 //! Reads a plan off a flow.
-ghost use Rattle.std.specs.Prelude.{◌≡◌, ℕ, ◌+◌, ◌<◌, ◌≤◌, List, length, IfOk, IfSome};
+ghost use Rattle.std.specs.Prelude.{◌≡◌, ℕ, ◌+◌, ◌<◌, ◌^◌, List, length, IfOk, IfSome};
 ghost use Rattle.augmenting_paths.specs.Shipping.{IsShipment};
 ghost use Rattle.network_prices.specs.Layers.{nodes_from, AreFirst, AreStartsTo, IsLayered, IsStart};
 ghost use Rattle.network_prices.specs.Pending.{pending_splits};
@@ -47,7 +47,7 @@ pub fn read_plan(
     flows: &[u64],
     first: usize,
 ) -> Result<Plan, AllocError>
-    requires few { first ≤ 4096 }
+    requires few { first < 2 ^ 18 }
     requires layers { IsLayered problem.now first arcs.now }
     requires shipped { IsShipment arcs.now (pending_splits problem.now) (first + length problem.now.workers
         + 1)
@@ -85,7 +85,7 @@ fn starts_of(
 {
     let mut plan = Plan::new(alloc, problem.splits(), problem.workers())?;
     for i in 0..problem.splits() {
-        plan.set(SplitNo::new(i as u16), start_at(problem, first, places[i]));
+        plan.set(SplitNo::new(i as u32), start_at(problem, first, places[i]));
     }
     Ok(plan)
 }

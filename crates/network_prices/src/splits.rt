@@ -12,10 +12,11 @@ use wave_problem::{Plan, Problem};
 pub fn pending_count(problem: &Problem) -> u64
     ensures count { result ≡ length (pending_splits problem.now) }
     ensures most { result ≤ MAX_SPLITS }
+    ensures within { result ≤ length problem.now.splits }
 {
     let mut count = 0;
     for i in 0..problem.splits() {
-        if problem.is_pending(SplitNo::new(i as u16)) {
+        if problem.is_pending(SplitNo::new(i as u32)) {
             count += 1;
         }
     }
@@ -40,7 +41,7 @@ pub fn split_prices(
     let reward = problem.reward();
     let mut prices = Vec::with_capacity(alloc, problem.splits())?;
     for i in 0..problem.splits() {
-        prices.push(split_price(problem, plan, workers, reward, SplitNo::new(i as u16)))?;
+        prices.push(split_price(problem, plan, workers, reward, SplitNo::new(i as u32)))?;
     }
     Ok(prices)
 }

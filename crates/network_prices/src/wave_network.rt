@@ -1,5 +1,5 @@
 //! What a network of every wave offers, and the plan and prices that are read off its flows.
-ghost use Rattle.std.specs.Prelude.{◌≡◌, ℕ, ◌+◌, ◌<◌, ◌≤◌, List, length, slice_index, IfOk};
+ghost use Rattle.std.specs.Prelude.{◌≡◌, ℕ, ◌+◌, ◌<◌, ◌^◌, List, length, slice_index, IfOk};
 ghost use Rattle.wave_problem.specs.Wave.{Wave};
 ghost use Rattle.flow_network.specs.declared.arcs.FlowArc.{FlowArc};
 ghost use Rattle.network_prices.specs.Layers.{nodes_from, IsLayered};
@@ -27,7 +27,8 @@ pub trait WaveNetwork: Layout + Drop {
     /// The arcs of a wave's network.
     ghost HasArcs: { Wave → List FlowArc → Type 0 };
 
-    /// The network of a problem, without flow.
+    /// The network of a problem, without flow. Where the problem is too large for one, none is made, as where
+    /// memory is wanting.
     fn build(alloc: Global, problem: &Problem) -> Result<Network<Self>, AllocError>
         ensures layout { IfOk result (λ network. Fits problem.now network.layout) }
         ensures arcs { IfOk result (λ network. HasArcs problem.now network.arcs) }
@@ -36,7 +37,7 @@ pub trait WaveNetwork: Layout + Drop {
     /// The place of the first worker.
     fn first(problem: &Problem) -> usize
         ensures place { result ≡ first problem.now }
-        ensures most { result ≤ 4096 };
+        ensures most { result < 2 ^ 18 };
 
     /// The greatest of the depths of the nodes above a worker's.
     fn depth_above(problem: &Problem, depths: &[u64], worker: WorkerNo) -> u64

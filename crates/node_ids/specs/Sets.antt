@@ -1,6 +1,6 @@
 -- Sets of numbers as tables of bits, in words of 64.
-use Rattle.std.specs.Prelude.{ℕ, ◌+◌, ◌*◌, ◌/◌, ◌%◌, ◌^◌, ◌<◌, ◌==◌, Bool, IsTrue, List, replicate}
-use Rattle.std.specs.Prelude.{slice_index, slice_set}
+use Rattle.std.specs.Prelude.{ℕ, ◌+◌, ◌*◌, ◌/◌, ◌%◌, ◌^◌, ◌<◌, ◌≤◌, ◌==◌, Bool, IsTrue, List, length}
+use Rattle.std.specs.Prelude.{replicate, slice_index, slice_set}
 use Rattle.std.specs.Int.{bit_at}
 use Rattle.std.specs.Int.RustNames.{bit_or}
 
@@ -39,5 +39,10 @@ no_workers = replicate 4 0
 abbrev pub no_splits : List ℕ
 no_splits = replicate 16 0
 
-abbrev pub no_pairs : List ℕ
-no_pairs = replicate 4096 0
+-- of so many splits, in a table that has room for all their pairs
+abbrev pub no_pairs : ℕ → List ℕ
+no_pairs splits = replicate (4 * splits) 0
+
+-- the table has room for the pairs of s
+abbrev pub HasRoomFor : List ℕ → ℕ → Type 0
+HasRoomFor words s = 4 * s + 4 ≤ length words

@@ -8,7 +8,7 @@ use std::marker::Model;
 /// The number of a split, from 0.
 #[derive(Clone, Copy, Debug, Default, PartialEq, Eq, PartialOrd, Ord, Hash)]
 pub struct SplitNo {
-    number: u16,
+    number: u32,
 }
 
 impl Model for SplitNo {
@@ -21,7 +21,7 @@ impl Model for SplitNo {
 
 impl SplitNo {
     /// A split with this number.
-    pub fn new(number: u16) -> Self
+    pub fn new(number: u32) -> Self
         ensures { result ≡ number }
     {
         SplitNo { number }
@@ -30,7 +30,7 @@ impl SplitNo {
     /// The number, as an index.
     pub fn index(self) -> usize
         ensures value { result ≡ self }
-        ensures bound { result < 2 ^ 16 }
+        ensures bound { result < 2 ^ 32 }
     {
         self.number as usize
     }

@@ -1,6 +1,6 @@
-ghost use Rattle.std.specs.Prelude.{◌≡◌, ℕ, ◌*◌, ◌<◌, ◌⊎◌, ◌↔◌, ◌≤◌, IfOk, IsTrue, false, length, List};
+ghost use Rattle.std.specs.Prelude.{◌≡◌, ℕ, ◌*◌, ◌^◌, ◌%◌, ◌<◌, ◌⊎◌, ◌↔◌, ◌≤◌, IfOk, IsTrue, false, length, List};
 ghost use Rattle.node_ids.specs.Sets.{AreBelow, Has, HasPair, has_number, place_of_pair, with_number};
-ghost use Rattle.node_ids.specs.Sets.{with_pair};
+ghost use Rattle.node_ids.specs.Sets.{with_pair, HasRoomFor};
 ghost use Rattle.node_ids.specs.Sets.{no_pairs, no_splits, no_workers};
 ghost use Rattle.std.specs.Int.{bit_at};
 
@@ -173,7 +173,7 @@ impl SplitSet {
     }
 }
 
-/// A set of pairs of a split and a worker, of which there are at most 1,024 and 256.
+/// A set of pairs of a split and a worker: of so many splits as it has room for, and of 256 workers.
 #[derive(Drop)]
 pub struct PairSet {
     words: Vec<u64>,
@@ -184,21 +184,23 @@ impl Model for PairSet {
 
     ghost view = { λ s. s.words.items };
 
-    ghost invariant = { λ s. length s.words.items ≡ 4096 };
+    // (four words for each split)
+    ghost invariant = { λ s. length s.words.items % 4 ≡ 0 };
 }
 
 impl PairSet {
-    /// The set without a member.
-    pub fn new(alloc: Global) -> Result<PairSet, AllocError>
-        ensures value { IfOk result (λ set. set ≡ no_pairs) }
+    /// The set without a member, with room for the pairs of so many splits: 32 bytes for each.
+    pub fn new(alloc: Global, splits: usize) -> Result<PairSet, AllocError>
+        requires { splits < 2 ^ 32 }
+        ensures value { IfOk result (λ set. set ≡ no_pairs splits) }
         ensures members { IfOk result (λ set. (s w : ℕ) → HasPair set s w → ⊥) }
     {
         Ok(PairSet {
-            words: vec![in alloc; 0; 4096]?,
+            words: vec![in alloc; 0; 4 * splits]?,
         })
     }
 
-    /// A set of the same pairs, with memory of its own: 32 KiB.
+    /// A set of the same pairs, with memory of its own.
     pub fn copy(&self, alloc: Global) -> Result<PairSet, AllocError>
         ensures { IfOk result (λ set. set ≡ self.now) }
     {
@@ -209,16 +211,16 @@ impl PairSet {
 
     /// Whether the pair is in the set.
     pub fn has(&self, split: SplitNo, worker: WorkerNo) -> bool
-        requires split { split < 1024 }
-        requires worker { worker < 256 }
+        requires { worker < 256 }
         ensures { result ≡ has_number self.now (place_of_pair split worker) }
     {
-        has_bit(&self.words, split.index() * 256 + worker.index())
+        let place = split.index() * 256 + worker.index();
+        place / 64 < self.words.len() && has_bit(&self.words, place)
     }
 
     /// Puts the pair in, if it is not there.
     pub fn put(&mut self, split: SplitNo, worker: WorkerNo)
-        requires split { split < 1024 }
+        requires room { HasRoomFor self.old split }
         requires worker { worker < 256 }
         ensures value { self.new ≡ with_pair self.old split worker }
         ensures members { (s w : ℕ) → w < 256 →
@@ -229,11 +231,13 @@ impl PairSet {
 
     /// The workers whose pair with the split is in the set.
     pub fn row(&self, split: SplitNo) -> WorkerSet
-        requires { split < 1024 }
         ensures below { AreBelow 256 result }
         ensures members { (w : ℕ) → w < 256 → Has result w ↔ HasPair self.now split w }
     {
         let first = 4 * split.index();
+        if first >= self.words.len() {
+            return WorkerSet::new();
+        }
         WorkerSet {
             words: [
                 self.words[first],

@@ -60,7 +60,7 @@ fn problem(alloc: Global) -> Option<Problem> {
     let tree = tree(alloc)?;
     let workers = workers(alloc)?;
     let splits = splits(alloc)?;
-    let barred = PairSet::new(alloc).ok()?;
+    let barred = PairSet::new(alloc, splits.len()).ok()?;
     Problem::new(alloc, tree, workers, splits, barred).ok()
 }
 
@@ -74,7 +74,7 @@ pub fn passes(alloc: Global, problem: &Problem) -> Option<bool>
 
 fn print_starts(rt: &impl Print, plan: &Plan) -> io::Result<()> {
     for i in 0..plan.splits() {
-        if let Some(worker) = plan.of(SplitNo::new(i as u16)) {
+        if let Some(worker) = plan.of(SplitNo::new(i as u32)) {
             println!(rt; "split {i} on worker {}", worker.index())?;
         }
     }

@@ -101,7 +101,7 @@ said names d s = said_after names d s.keyword s.words
 -- a split has a place for its start and one for its price, none are too many, and each start is on a worker
 pub record IsSound (starts splits workers : List (Option ℕ)) : Type 0 where
   pub one_size : length starts ≡ length splits
-  pub few_splits : length splits ≤ 1024
+  pub few_splits : length splits ≤ 131072
   pub few_workers : length workers ≤ 256
   pub known : All (λ start. IfSome start (λ w. w < length workers)) starts
 

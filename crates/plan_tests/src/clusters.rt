@@ -90,10 +90,10 @@ pub fn split_lines(alloc: Global, rows: &[SplitRow<'_>]) -> Option<Vec<SplitLine
 
 /// The set of these pairs of a split and a worker.
 pub fn pairs(rt: &impl Abort, alloc: Global, rows: &[(u16, u16)]) -> Option<PairSet> {
-    let mut pairs = PairSet::new(alloc).ok()?;
+    let mut pairs = PairSet::new(alloc, 1024).ok()?;
     for (split, worker) in rows {
         assert!(rt; *split < 1024 && *worker < 256);
-        pairs.put(SplitNo::new(*split), WorkerNo::new(*worker));
+        pairs.put(SplitNo::new(u32::from(*split)), WorkerNo::new(*worker));
     }
     Some(pairs)
 }
@@ -134,7 +134,7 @@ pub fn plan_of(rt: &impl Abort, alloc: Global, starts: &[Option<u16>], workers: 
     for (split, start) in starts.iter().enumerate() {
         if let Some(worker) = start {
             assert!(rt; split < plan.splits() && usize::from(*worker) < plan.workers());
-            plan.set(SplitNo::new(split as u16), Some(WorkerNo::new(*worker)));
+            plan.set(SplitNo::new(split as u32), Some(WorkerNo::new(*worker)));
         }
     }
     plan

@@ -59,7 +59,7 @@ fn start(
     split: usize,
 ) -> Value {
     if split < 4 && split < engine.problem().splits() {
-        let number = SplitNo::new(split as u16);
+        let number = SplitNo::new(split as u32);
         if let Some(worker) = engine.start(alloc, number) {
             let cost = small
                 .start_cost(split, worker.index())
@@ -77,7 +77,7 @@ fn start(
 // A split that is not pending is pending again.
 fn pend(rt: &impl Abort, alloc: Global, engine: &mut Engine, small: &mut Small, split: usize) {
     if split < 4 && split < engine.problem().splits() {
-        let number = SplitNo::new(split as u16);
+        let number = SplitNo::new(split as u32);
         if !engine.problem().is_pending(number) {
             engine.pend(alloc, number).expect(rt, "not pending");
             small.split[split].pending = true;

@@ -1,12 +1,12 @@
 use crate::random::Random;
 use crate::small::{NONE, ONE_CENTRE, Row, Small, Value};
-use crate::small_problems::{of, one_host};
+use crate::small_problems::{of, one_host, one_host_past_direct};
 use certificate_checker::{Certified, certify};
 use node_ids::{SplitNo, WorkerNo};
 use price_certificate::Prices;
 use std::alloc::Global;
 use std::process::Abort;
-use wave_planner::{NetworkKind, Planned, plan, plan_with};
+use wave_planner::{NetworkKind, PlanError, Planned, plan, plan_with};
 use wave_problem::{MAX_BYTES, Problem};
 
 // That the plan over a network is certified, with this count and cost.
@@ -51,7 +51,7 @@ fn assert_starts(rt: &impl Abort, planned: &Planned, starts: &[Option<u16>]) {
     for (i, start) in starts.iter().enumerate() {
         if i < plan.splits() {
             let worker = start.map(|worker| WorkerNo::new(worker));
-            assert_eq!(rt; (i, plan.of(SplitNo::new(i as u16))), (i, worker));
+            assert_eq!(rt; (i, plan.of(SplitNo::new(i as u32))), (i, worker));
         }
     }
 }
@@ -266,4 +266,16 @@ fn one_host_by_pairs(rt: HostRuntime) {
         assert_eq!(rt; arcs_by_pairs(&rt, rt.alloc(), &problem), 66_626);
         assert_certified(&rt, rt.alloc(), &problem, NetworkKind::Direct, want);
     }
+}
+
+// All but one start, four steps away, and no network of pairs is built.
+#[test]
+fn one_host_past_the_direct_network(rt: HostRuntime) {
+    let alloc = rt.alloc();
+    let problem = one_host_past_direct(&rt, alloc);
+    assert_certified(&rt, alloc, &problem, NetworkKind::Racks, all_started(4096));
+    let error = plan_with(alloc, &problem, NetworkKind::Direct).err();
+    assert_eq!(rt; error, Some(PlanError::Size));
+    assert!(rt; direct_network::build(alloc, &problem).is_err());
+    assert!(rt; rack_network::build(alloc, &problem).is_err());
 }

@@ -24,12 +24,11 @@ fn told(
 #[test]
 fn errors_in_order(rt: HostRuntime) {
     let nine: &[u16] = &[0, 1, 2, 0, 1, 2, 0, 1, 2];
-    let rows: [(u8, u64, &[u16], Option<ProblemError>); 7] = [
-        (16, MAX_BYTES, &[2, 0], None),
-        (17, 1, &[0], Some(ProblemError::Limit)),
+    let rows: [(u8, u64, &[u16], Option<ProblemError>); 6] = [
+        (255, MAX_BYTES, &[2, 0], None),
         (1, MAX_BYTES + 1, &[0], Some(ProblemError::Limit)),
         (1, 1, nine, Some(ProblemError::Limit)),
-        (17, 1, &[3], Some(ProblemError::Limit)),
+        (1, MAX_BYTES + 1, &[3], Some(ProblemError::Limit)),
         (1, 1, &[3], Some(ProblemError::Holder)),
         (1, 1, &[1, 0, 1], Some(ProblemError::Holder)),
     ];
@@ -50,7 +49,7 @@ pub fn three_splits(rt: &impl Abort, alloc: Global) -> Problem {
 fn costs_of(
     rt: &impl Abort,
     problem: &Problem,
-    split: u16,
+    split: u32,
     worker: u16,
 ) -> [(Option<u64>, bool); 2] {
     let split = SplitNo::new(split);

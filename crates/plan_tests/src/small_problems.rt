@@ -51,11 +51,11 @@ fn split_lines(alloc: Global, splits: &[Split]) -> Result<Vec<SplitLine>, AllocE
 }
 
 fn barred_pairs(alloc: Global, splits: &[Split]) -> Result<PairSet, AllocError> {
-    let mut barred = PairSet::new(alloc)?;
+    let mut barred = PairSet::new(alloc, 1024)?;
     for s in 0..splits.len().min(1024) {
         for w in 0..4u16 {
             if splits[s].barred_on[usize::from(w)] {
-                barred.put(SplitNo::new(s as u16), WorkerNo::new(w));
+                barred.put(SplitNo::new(s as u32), WorkerNo::new(w));
             }
         }
     }
@@ -88,6 +88,25 @@ pub fn of(rt: &impl Abort, alloc: Global, small: &Small) -> Problem {
 
 /// A worker without slots holds 1,024 splits of so many bytes; 64 workers of 16 slots stand in another rack.
 pub fn one_host(rt: &impl Abort, alloc: Global, bytes: u64) -> Problem {
+    one_host_of(rt, alloc, &[on_first(bytes); 1024])
+}
+
+/// The same with one split more, of one byte each.
+pub fn one_host_past_direct(rt: &impl Abort, alloc: Global) -> Problem {
+    one_host_of(rt, alloc, &[on_first(1); 1025])
+}
+
+// A split of so many bytes on the first worker.
+fn on_first(bytes: u64) -> Split {
+    Split {
+        bytes,
+        pending: true,
+        held_by: [true, false, false, false],
+        barred_on: [false; 4],
+    }
+}
+
+fn one_host_of(rt: &impl Abort, alloc: Global, splits: &[Split]) -> Problem {
     let far = Worker {
         rack: 1,
         live: true,
@@ -99,11 +118,5 @@ pub fn one_host(rt: &impl Abort, alloc: Global, bytes: u64) -> Problem {
         live: true,
         free: 0,
     };
-    let split = Split {
-        bytes,
-        pending: true,
-        held_by: [true, false, false, false],
-        barred_on: [false; 4],
-    };
-    problem(rt, alloc, (1, &[0, 0]), &workers, &[split; 1024])
+    problem(rt, alloc, (1, &[0, 0]), &workers, splits)
 }

@@ -44,10 +44,10 @@ module _ (rows : List Statement) (tidy : AreTidy rows) where
       (map (declared_split (names_of Worker rows) (names_of Busy rows)) (rows_of Split rows))
   all_small =
       let split = declared_split (names_of Worker rows) (names_of Busy rows) in
-      let few : length (rows_of Split rows) ≤ 1024 = tidy.few_splits in
+      let few : length (rows_of Split rows) ≤ 131072 = tidy.few_splits in
       record {
         few_splits = omega (arith, length-map (rows_of Split rows) split, few);
-        slots = All-map (λ worker. worker.free ≤ 16) (declared_worker (names_of Dead rows))
+        slots = All-map (λ worker. worker.free ≤ 255) (declared_worker (names_of Dead rows))
             (rows_of Worker rows)
             (λ i d lt. (tidy_workers rows tidy i d lt).slots.most);
         each_small = All-map IsSmall split (rows_of Split rows)

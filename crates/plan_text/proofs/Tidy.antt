@@ -11,15 +11,19 @@ use Rattle.text_lines.specs.Texts.{Line, Word}
 use Rattle.line_shapes.specs.Lines.{Statement}
 use Rattle.line_shapes.specs.Places.{place_at, places_of}
 use Rattle.line_shapes.specs.declared.keyword.Keyword.{Keyword}
+use Rattle.line_shapes.specs.declared.keyword.Keyword.TheVariants.{Split}
 use Rattle.line_shapes.specs.declared.place.Kind.{Kind}
 use Rattle.line_shapes.specs.declared.place.Kind.TheVariants.{Priced}
 use Rattle.line_shapes.specs.declared.place.Place.{Place}
 use Rattle.line_shapes.specs.declared.place.Place.TheVariants.{Used}
-use Rattle.line_rules.specs.Entering.{Key, entered_of, key_of, most_of}
+use Rattle.line_rules.specs.Entering.{Key, entered_of, key_of, most_of, most_splits}
 use Rattle.line_rules.specs.Faults.{IsFewer, IsDeclaredIn, IsFew, IsFit, IsFirst, Keep}
 use Rattle.line_rules.specs.Known.{HasRow, IsDeclared, Known, entered, is_of, keys_of, known_at, rows_of}
 use Rattle.line_rules.specs.Reading.{AreFitLines, IsAllRead}
+use Rattle.line_rules.specs.declared.edition.Version.{Version}
+use Rattle.line_rules.specs.declared.edition.Version.TheVariants.{One, Two, Three}
 use Rattle.line_rules.specs.declared.purpose.Purpose.{Purpose}
+use Rattle.line_rules.specs.declared.purpose.Purpose.TheVariants.{Checking, Planning, Playing, Running}
 use Rattle.line_rules.specs.declared.rule.Rule.TheVariants as rule
 use Rattle.line_rules.proofs.FitLines.{known_after, names_after}
 use Rattle.line_rules.proofs.Fits.{fit_first}
@@ -59,9 +63,9 @@ module _ (rows more : List Statement) where
     tail_apart = h.tail_apart;
   }
 
--- no more lines of a keyword than there may be, and none entered twice
+-- no more lines of a keyword than there may be in the newest version, and none entered twice
 pub record AreKept (purpose : Purpose) (rows : List Statement) : Type 0 where
-  pub few : (k : Keyword) → IsFew (most_of purpose k) (length (rows_of k rows))
+  pub few : (k : Keyword) → IsFew (most_of Three purpose k) (length (rows_of k rows))
   differ : AllPairs (λ a b. a ≢ b) (keys_of rows)
   each : All (IsTidyRow rows) rows
 
@@ -79,9 +83,28 @@ count-more : (k : Keyword) (rows : List Statement) (s : Statement) (b : Bool) �
 count-more k rows s b is = grind (arith, filter-append, length-append)
 
 few-more : (purpose : Purpose) (k : Keyword) (rows : List Statement) (s : Statement)
-    → IsFew (most_of purpose k) (count k rows) → IsFewer (most_of purpose s.keyword) (count s.keyword rows)
-    → IsFew (most_of purpose k) (count k (rows ++ s ∷ []))
+    → IsFew (most_of Three purpose k) (count k rows)
+    → IsFewer (most_of Three purpose s.keyword) (count s.keyword rows)
+    → IsFew (most_of Three purpose k) (count k (rows ++ s ∷ []))
 few-more purpose k rows s few room = grind (arith, keyword_of, few-one, count-more)
+
+splits-newest : (version : Version) (purpose : Purpose) → most_splits version purpose ≤ most_splits Three purpose
+splits-newest One Checking = omega arith
+splits-newest Two Checking = omega arith
+splits-newest Three Checking = omega arith
+splits-newest One Planning = omega arith
+splits-newest Two Planning = omega arith
+splits-newest Three Planning = omega arith
+splits-newest version Playing = omega arith
+splits-newest version Running = omega arith
+
+-- where there is room for one more, there is in the newest version
+fewer-newest : (version : Version) (purpose : Purpose) (k : Keyword) (n : ℕ)
+    → IsFewer (most_of version purpose k) n → IsFewer (most_of Three purpose k) n
+fewer-newest version purpose Split n room =
+    let room : n < most_splits version purpose = room in
+    omega (arith, splits-newest version purpose, room)
+fewer-newest version purpose k n room = room
 
 fresh : (rows : List Statement) (s : Statement) → IsFirst rows s → (i : ℕ) (d : Key) →
     i < length (keys_of rows)
@@ -103,14 +126,15 @@ tidy_of k s whole fit = record {
 
 -- a line that is entered leaves the rows tidy
 tidy-row : (k : Known) (s : Statement) → length (places_of s.keyword) ≤ length s.words → IsFit k s
-    → IsFewer (most_of k.purpose s.keyword) (count s.keyword k.rows) → IsFirst k.rows s →
+    → IsFewer (most_of k.version k.purpose s.keyword) (count s.keyword k.rows) → IsFirst k.rows s →
     AreKept k.purpose k.rows
     → AreKept k.purpose (k.rows ++ s ∷ [])
 tidy-row k s whole fit room first kept =
     let rows = k.rows in
     let P = IsTidyRow (rows ++ s ∷ []) in
     record {
-      few = λ j. few-more k.purpose j rows s (kept.few j) room;
+      few = λ j. few-more k.purpose j rows s (kept.few j)
+          (fewer-newest k.version k.purpose s.keyword (count s.keyword rows) room);
       differ = subst (AllPairs (λ a b. a ≢ b)) (sym (map-append key_of rows (s ∷ [])))
           (all_pairs_push (λ a b. a ≢ b) (keys_of rows) (key_of s) kept.differ (fresh rows s first));
       each = All-append P rows (s ∷ [])

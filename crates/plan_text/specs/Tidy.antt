@@ -27,7 +27,7 @@ pub record AreTidy (rows : List Statement) : Type 0 where
   pub few_centres : length (rows_of keyword.Centre rows) ≤ 8
   pub few_racks : length (rows_of keyword.Rack rows) ≤ 32
   pub few_workers : length (rows_of keyword.Worker rows) ≤ 256
-  pub few_splits : length (rows_of keyword.Split rows) ≤ 1024
+  pub few_splits : length (rows_of keyword.Split rows) ≤ 131072
   pub few_documents : length (rows_of keyword.Doc rows) ≤ 65536
   pub differ : AllPairs (λ a b. a ≢ b) (keys_of rows)
   pub each : All (IsTidyRow rows) rows
@@ -41,7 +41,7 @@ pub record IsAtMost (w : Word) (limit : ℕ) : Type 0 where
 
 pub record IsTidyWorker (racks : List Word) (s : Statement) : Type 0 where
   pub rack : Contains racks (nth_word 1 s)
-  pub slots : IsAtMost (nth_word 2 s) 16
+  pub slots : IsAtMost (nth_word 2 s) 255
 
 pub record IsTidySplit (workers : List Word) (s : Statement) : Type 0 where
   pub is_split : s.keyword ≡ keyword.Split

@@ -190,7 +190,7 @@ fn build_barred(alloc: Global, rows: &TidyRows<'_, '_>) -> Result<PairSet, Alloc
     ensures { IfOk result (λ set. (s w : ℕ) → w < 256 → HasPair set s w
         ↔ IsBarred (names_of Split rows.now) (names_of Worker rows.now) (rows_of Barred rows.now) s w) }
 {
-    let mut set = PairSet::new(alloc)?;
+    let mut set = PairSet::new(alloc, rows.count(Keyword::Split))?;
     for line in 0..rows.count(Keyword::Barred) {
         let split = rows.split(rows.word(Keyword::Barred, line, 0));
         set.put(split, rows.worker(rows.word(Keyword::Barred, line, 1)));

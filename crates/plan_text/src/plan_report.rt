@@ -65,7 +65,7 @@ fn add_starts(
         ≡ string_bytes lines.old ++ start_lines splits.now workers.now plan.now.starts) }
 {
     for number in 0..plan.splits() {
-        let start = plan.of(SplitNo::new(number as u16));
+        let start = plan.of(SplitNo::new(number as u32));
         add_start(lines, splits.name_or_empty(number), workers, start)?;
     }
     Ok(())
@@ -104,7 +104,7 @@ fn add_split_prices(
         ≡ string_bytes lines.old ++ price_lines_of splits.now prices.now.splits) }
 {
     for number in 0..splits.len() {
-        let price = prices.split(SplitNo::new(number as u16));
+        let price = prices.split(SplitNo::new(number as u32));
         add_price(lines, splits.name_or_empty(number), price)?;
     }
     Ok(())

@@ -145,7 +145,7 @@ impl<'r, 't> TidyRows<'r, 't> {
         ensures within { result < length (names_of Split self.now) }
     {
         self.are_tidy();
-        SplitNo::new(self.declared(Keyword::Split, name) as u16)
+        SplitNo::new(self.declared(Keyword::Split, name) as u32)
     }
 
     /// The number of a declared worker.

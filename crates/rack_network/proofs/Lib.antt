@@ -3,6 +3,7 @@ pub mod Distances
 pub mod Heights
 pub mod RackWays
 -- the network is built
+pub mod Sizes
 pub mod Rows
 -- it lies in layers, and each wave has one
 pub mod Layers

@@ -1,10 +1,17 @@
--- How far the rack network of a wave is built.
-use Rattle.std.specs.Prelude.{ℕ, ◌+◌, ◌-◌, ◌*◌, length}
-use Rattle.wave_problem.specs.Wave.{Wave}
+-- Which waves a rack network is built for, and how far it is built.
+use Rattle.std.specs.Prelude.{ℕ, ◌+◌, ◌-◌, ◌*◌, ◌^◌, ◌<◌, ◌≤◌, length}
+use Rattle.wave_problem.specs.Wave.{Wave, reward}
 use Rattle.flow_network.specs.Flow.{Flow}
 use Rattle.network_prices.specs.Tables.{IsBuiltTo}
 use Rattle.rack_network.specs.declared.layout.RackLayout.{RackLayout}
-use Rattle.rack_network.specs.Racks.{arc_of, IsSized, IsWanted}
+use Rattle.rack_network.specs.declared.network.TheConstants.{MAX_SPLITS, MAX_SLOTS}
+use Rattle.rack_network.specs.Racks.{arc_of, slots, IsSized, IsWanted}
+
+-- there are few splits, one arc can carry a unit for each free slot, and the reward can be the cost of an arc
+pub record IsSmallWave (wave : Wave) : Type 0 where
+  pub few_splits : length wave.splits ≤ MAX_SPLITS
+  pub few_slots : slots wave (length wave.workers) 3 0 ≤ MAX_SLOTS
+  pub small_reward : reward wave < 2 ^ 47
 
 -- how many places stand before one, where each row has 299 past the splits
 abbrev pub rank : Wave → ℕ → ℕ → ℕ

@@ -1,6 +1,7 @@
 //! The arcs of the rack network.
 ghost use Rattle.std.specs.Prelude.{◌≡◌, ◌<◌, ◌≤◌, ◌^◌};
 ghost use Rattle.rack_network.specs.Racks.{arc_of, count as count_of, IsWanted};
+ghost use Rattle.rack_network.specs.Build.{IsSmallWave};
 
 use crate::levels::{count, parent, slots, start};
 use flow_network::FlowArc;
@@ -29,9 +30,10 @@ pub enum RackArc {
 }
 
 impl RackArc {
-    /// The arc with the places of its ends, its capacity and its cost in the network of a problem.
-    pub fn flow_arc(&self, problem: &Problem) -> FlowArc
-        requires { IsWanted problem.now self.now }
+    // The arc with the places of its ends, its capacity and its cost in the network of a problem.
+    pub(crate) fn flow_arc(&self, problem: &Problem) -> FlowArc
+        requires wanted { IsWanted problem.now self.now }
+        requires small { IsSmallWave problem.now }
         ensures arc { result ≡ arc_of problem.now self.now }
         ensures capacity { result.capacity ≤ 4096 }
         ensures cost { result.cost < 2 ^ 47 }
@@ -60,7 +62,8 @@ impl RackArc {
 
 // An arc of one unit from a split to a place.
 fn unit(split: SplitNo, to: usize, cost: u64) -> FlowArc
-    requires { to < 2 ^ 16 }
+    requires split { split < 2 ^ 16 }
+    requires to { to < 2 ^ 16 }
     ensures { result ≡ record { from = split; to = to; capacity = 1; cost = cost } }
 {
     FlowArc {
@@ -90,6 +93,7 @@ fn free(from: usize, to: usize, capacity: u64) -> FlowArc
 fn down(problem: &Problem, level: u8, number: u16) -> FlowArc
     requires level { level < 3 }
     requires number { number < count_of problem.now level }
+    requires small { IsSmallWave problem.now }
     ensures arc { result ≡ arc_of problem.now (RackArc.Down level number) }
     ensures capacity { result.capacity ≤ 4096 }
 {

@@ -94,7 +94,7 @@ impl Layout for RackLayout {
         let workers = racks + usize::from(self.racks);
         let unstarted = workers + usize::from(self.workers);
         if index < usize::from(self.splits) {
-            RackNode::Split(SplitNo::new(index as u16))
+            RackNode::Split(SplitNo::new(index as u32))
         } else if index < centres {
             RackNode::Cluster
         } else if index < racks {

@@ -1,5 +1,8 @@
-//! The nodes of the tree by level and number: workers at level 0, racks at 1, data centres at 2, the cluster at 3.
-ghost use Rattle.std.specs.Prelude.{◌≡◌, ◌+◌, ◌<◌, ◌≤◌, length};
+//! The nodes of the tree by level and number: workers at level 0, racks at 1, data centres at 2, the cluster
+//! at 3.
+ghost use Rattle.std.specs.Prelude.{◌≡◌, ◌+◌, ◌*◌, ◌<◌, ◌≤◌, ◌^◌, length};
+ghost use Rattle.rack_tree.specs.declared.TheConstants.{MAX_WORKERS};
+ghost use Rattle.wave_problem.specs.declared.TheConstants.{MAX_SLOTS};
 ghost use Rattle.rack_network.specs.Racks.{above, count, parent, slots, start};
 
 use crate::layout::clusters;
@@ -25,8 +28,8 @@ pub fn count(problem: &Problem, level: u8) -> usize
 pub fn start(problem: &Problem, level: u8) -> usize
     requires { level < 4 }
     ensures place { result ≡ start problem.now level }
-    ensures most { result ≤ 1065 }
-    ensures whole { result + count problem.now level ≤ 1321 }
+    ensures most { result < 2 ^ 18 }
+    ensures whole { result + count problem.now level ≤ length problem.now.splits + 297 }
 {
     let tree = problem.tree();
     let centres = problem.splits() + clusters(tree.centres());
@@ -75,7 +78,7 @@ pub fn above(problem: &Problem, level: u8, worker: WorkerNo) -> usize
 pub fn slots(problem: &Problem, level: u8, number: usize) -> u64
     requires { level < 4 }
     ensures sum { result ≡ slots problem.now (length problem.now.workers) level number }
-    ensures most { result ≤ 4096 }
+    ensures most { result ≤ MAX_WORKERS * MAX_SLOTS }
 {
     let mut slots = 0;
     for i in 0..problem.workers() {

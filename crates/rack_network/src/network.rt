@@ -3,18 +3,24 @@ ghost use Rattle.std.specs.Prelude.{◌≡◌, ℕ, suc, ◌+◌, ◌<◌, ◌�
 ghost use Rattle.std.specs.Prelude.{IfOk, IsTrue, OnOk, slice_index};
 ghost use Rattle.wave_problem.specs.Wave.{split_at, IsUsable};
 ghost use Rattle.network_prices.specs.Building.{IsAdded};
-ghost use Rattle.rack_network.specs.declared.network.TheConstants.{MAX_ARCS};
-ghost use Rattle.rack_network.specs.Racks.{arc_of, count, node, parent, start, unstarted_node};
+ghost use Rattle.rack_network.specs.declared.network.TheConstants.{MAX_ARCS, MAX_SLOTS, MAX_SPLITS};
+ghost use Rattle.rack_network.specs.Racks.{arc_of, count, node, parent, slots, start, unstarted_node};
 ghost use Rattle.rack_network.specs.Racks.{HasBars, IsDown, IsHeldUnder, IsRackNetwork, IsSized};
 ghost use Rattle.rack_network.specs.Racks.{IsTree, IsUnder, IsWanted};
-ghost use Rattle.rack_network.specs.Build.{IsBuilt};
+ghost use Rattle.rack_network.specs.Build.{IsBuilt, IsSmallWave};
 
-use crate::levels::{above, count, parent};
+use crate::levels::{above, count, parent, slots};
 use crate::{RackArc, RackLayout};
 use flow_network::{NetError, Network};
 use node_ids::{SplitNo, WorkerNo};
 use std::alloc::{AllocError, Global};
 use wave_problem::Problem;
+
+/// How many splits a problem may have for its rack network to be built.
+pub const MAX_SPLITS: usize = 1024;
+
+/// How many free slots its live workers may have together: one arc can lead to all of them.
+pub const MAX_SLOTS: u64 = 4096;
 
 /// How many arcs a rack network has at most: 299 places past the splits in each of 1,323 rows.
 pub const MAX_ARCS: usize = 395_577;
@@ -22,13 +28,19 @@ pub const MAX_ARCS: usize = 395_577;
 /// The rack network of a problem, without flow, row by row: of each split the arcs to `Cluster`, to data
 /// centres, to racks, to workers and to `Unstarted`, then those of `Cluster`, of the centres, of the racks
 /// and of the workers, then the last. Where live holders of a split stand below one node, one arc leads from
-/// the split to it.
+/// the split to it. Of a problem of more than `MAX_SPLITS` splits, or with more than `MAX_SLOTS` free slots
+/// of live workers, none is made, as where memory is wanting.
 pub fn build(alloc: Global, problem: &Problem) -> Result<Network<RackLayout>, AllocError>
     ensures layout { IfOk result (λ network. IsSized problem.now network.layout) }
     ensures arcs { IfOk result (λ network. IsRackNetwork problem.now network.arcs) }
     ensures empty { IfOk result (λ network. (k : ℕ) → slice_index network.flows k ≡ 0) }
     ensures most { IfOk result (λ network. length network.arcs ≤ MAX_ARCS) }
+    ensures small { IfOk result (λ _. IsSmallWave problem.now) }
 {
+    if problem.splits() > MAX_SPLITS || slots(problem, 3, 0) > MAX_SLOTS {
+        return Err(AllocError);
+    }
+    know_size(problem);
     let layout = RackLayout {
         splits: problem.splits() as u16,
         centres: problem.tree().centres() as u8,
@@ -53,14 +65,24 @@ fn know_tree(problem: &Problem)
     problem.limits();
 }
 
+// That the reward too is small enough for an arc.
+fn know_size(problem: &Problem)
+    requires splits { length problem.now.splits ≤ MAX_SPLITS }
+    requires slots { slots problem.now (length problem.now.workers) 3 0 ≤ MAX_SLOTS }
+    ensures { IsSmallWave problem.now }
+{
+    problem.limits();
+}
+
 // Adds the rows of the splits.
 fn add_splits(network: &mut Network<RackLayout>, problem: &Problem) -> Result<(), AllocError>
     requires tree { IsTree problem.now }
+    requires small { IsSmallWave problem.now }
     requires built { IsBuilt problem.now 0 0 network.old }
     ensures { OnOk result (IsBuilt problem.now (length problem.now.splits) 0 network.new) }
 {
     for i in 0..problem.splits() {
-        let split = SplitNo::new(i as u16);
+        let split = SplitNo::new(i as u32);
         if problem.is_pending(split) {
             add_split(network, problem, split)?;
         }
@@ -77,6 +99,7 @@ fn add_split(
     requires split { split < length problem.now.splits }
     requires pending { (split_at problem.now split).pending ≡ true }
     requires tree { IsTree problem.now }
+    requires small { IsSmallWave problem.now }
     requires built { IsBuilt problem.now split 0 network.old }
     ensures { OnOk result (IsBuilt problem.now (split + 1) 0 network.new) }
 {
@@ -111,6 +134,7 @@ fn add_pairs(
     requires split { split < length problem.now.splits }
     requires bars { HasBars problem.now split }
     requires tree { IsTree problem.now }
+    requires small { IsSmallWave problem.now }
     requires built { IsBuilt problem.now split 0 network.old }
     ensures { OnOk result (IsBuilt problem.now split (unstarted_node problem.now) network.new) }
 {
@@ -133,6 +157,7 @@ fn add_reaches(
     requires pending { (split_at problem.now split).pending ≡ true }
     requires no_bars { HasBars problem.now split → ⊥ }
     requires tree { IsTree problem.now }
+    requires small { IsSmallWave problem.now }
     requires built { IsBuilt problem.now split (start problem.now 3) network.old }
     ensures { OnOk result (IsBuilt problem.now split (unstarted_node problem.now) network.new) }
 {
@@ -154,6 +179,7 @@ fn add_reaches_at(
     requires pending { (split_at problem.now split).pending ≡ true }
     requires no_bars { HasBars problem.now split → ⊥ }
     requires tree { IsTree problem.now }
+    requires small { IsSmallWave problem.now }
     requires level { level < 4 }
     requires built { IsBuilt problem.now split (start problem.now level) network.old }
     ensures { OnOk result (IsBuilt problem.now split (node problem.now level (count problem.now level))
@@ -200,6 +226,7 @@ fn add_level(
     level: u8,
 ) -> Result<(), AllocError>
     requires tree { IsTree problem.now }
+    requires small { IsSmallWave problem.now }
     requires level { level < 3 }
     requires built { IsBuilt problem.now (start problem.now (suc level)) 0 network.old }
     ensures { OnOk result (IsBuilt problem.now (start problem.now level) 0 network.new) }
@@ -218,6 +245,7 @@ fn add_children(
     number: usize,
 ) -> Result<(), AllocError>
     requires tree { IsTree problem.now }
+    requires small { IsSmallWave problem.now }
     requires level { level < 3 }
     requires number { number < count problem.now (suc level) }
     requires built { IsBuilt problem.now (node problem.now (suc level) number) 0 network.old }
@@ -256,6 +284,7 @@ fn is_usable(problem: &Problem, worker: WorkerNo) -> bool
 // Adds the rows of the workers.
 fn add_slots(network: &mut Network<RackLayout>, problem: &Problem) -> Result<(), AllocError>
     requires tree { IsTree problem.now }
+    requires small { IsSmallWave problem.now }
     requires built { IsBuilt problem.now (start problem.now 0) 0 network.old }
     ensures { OnOk result (IsBuilt problem.now (unstarted_node problem.now) 0 network.new) }
 {
@@ -268,6 +297,7 @@ fn add_slots(network: &mut Network<RackLayout>, problem: &Problem) -> Result<(),
 // Adds one arc.
 fn add(network: &mut Network<RackLayout>, problem: &Problem, arc: RackArc) -> Result<(), AllocError>
     requires tree { IsTree problem.now }
+    requires small { IsSmallWave problem.now }
     requires layout { IsSized problem.now network.old.layout }
     requires wanted { IsWanted problem.now arc }
     requires room { length network.old.arcs < MAX_ARCS }

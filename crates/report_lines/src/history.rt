@@ -123,7 +123,7 @@ fn add_join(
     let worker = workers.name_or_empty(worker.index());
     write!(lines, "join {worker}")?;
     for number in 0..splits.len() {
-        let is_held = set.has(SplitNo::new(number as u16));
+        let is_held = set.has(SplitNo::new(number as u32));
         add_member(lines, splits, number, is_held)?;
     }
     write!(lines, "\n")

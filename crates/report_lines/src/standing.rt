@@ -60,7 +60,7 @@ pub fn add_open_splits(
         ≡ string_bytes lines.old ++ open_split_lines splits.now workers.now states.now) }
 {
     for number in 0..states.len() {
-        let split = SplitNo::new(number as u16);
+        let split = SplitNo::new(number as u32);
         add_open_split(lines, splits, workers, split, states[number])?;
     }
     Ok(())

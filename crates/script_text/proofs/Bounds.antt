@@ -16,6 +16,7 @@ use Rattle.line_rules.specs.Known.{Known, entered, rows_of}
 use Rattle.line_rules.specs.Reading.{AreFitLines, IsAllRead}
 use Rattle.line_rules.specs.declared.entering.Entering.{Entering}
 use Rattle.line_rules.specs.declared.entering.Entering.TheVariants.{InTurn}
+use Rattle.line_rules.specs.declared.edition.Version.{Version}
 use Rattle.line_rules.specs.declared.purpose.Purpose.{Purpose}
 use Rattle.line_rules.proofs.FitLines.{known_after, names_after}
 use Rattle.plan_text.specs.Tidy.{IsTidyRow}
@@ -35,9 +36,10 @@ pub record AreBounded (n : ℕ) (rows commands : List Statement) : Type 0 where
   pub short : All (IsShort n) commands
   pub tidy : All (IsTidyCommand rows) commands
 
-most_of_command : (purpose : Purpose) (k : Keyword) → entering_of k ≡ InTurn → most_of purpose k ≡ Some 65536
-most_of_command purpose keyword.Problem is = cc
-most_of_command purpose k is = cc
+most_of_command : (version : Version) (purpose : Purpose) (k : Keyword) → entering_of k ≡ InTurn
+    → most_of version purpose k ≡ Some 65536
+most_of_command version purpose keyword.Problem is = cc
+most_of_command version purpose k is = cc
 
 abbrev workers_in : Known → ℕ
 workers_in k = length (rows_of keyword.Worker k.rows)
@@ -72,10 +74,11 @@ module _ (n : ℕ) (k : Known) (s : Statement) (whole : length (places_of s.keyw
 
   one : entering_of s.keyword ≡ InTurn → AreBounded n rows (k.commands ++ s ∷ [])
   one is =
-      let Room : Entering → Type 0 = λ e. IsFewer (most_of k.purpose s.keyword) (counted_by e k s.keyword) in
+      let Room : Entering → Type 0 = λ e. IsFewer (most_of k.version k.purpose s.keyword)
+      (counted_by e k s.keyword) in
       let counted = subst Room is fit.within_limit.room in
       let room : length k.commands < 65536 =
-      subst (λ (m : Option ℕ). IsFewer m (length k.commands)) (most_of_command k.purpose s.keyword is)
+      subst (λ (m : Option ℕ). IsFewer m (length k.commands)) (most_of_command k.version k.purpose s.keyword is)
       counted in
       record {
         few = omega (arith, room, length_push k.commands s);

@@ -16,7 +16,7 @@ use Rattle.line_shapes.specs.declared.keyword.Keyword.TheVariants.{Busy, Dead, D
 use Rattle.line_shapes.specs.declared.keyword.Keyword.TheVariants.{Split, Worker}
 use Rattle.line_rules.specs.Known.{rows_of}
 use Rattle.rack_tree.specs.Tree.{Tree}
-use Rattle.wave_problem.specs.Wave.{AreHeldWell, AreSmallSplits}
+use Rattle.wave_problem.specs.Wave.{AreHeldWell, IsSmall}
 use Rattle.wave_problem.specs.Wave as wave
 use Rattle.word_map.specs.Texts.{SplitDocuments}
 use Rattle.word_map.specs.declared.text.Document.{Document}
@@ -101,10 +101,8 @@ module _ (rows : List Statement) (tidy : AreTidy rows) (head : Head) (makes : Ma
       let all = ap (sum_by count) makes.texts ∙ documents_together lines 0 names in
       omega (arith, all, once, length-enumerate_from 0 lines, tidy.few_documents)
 
-  small : AreSmallSplits head.splits.items
-  small =
-      subst AreSmallSplits (sym makes.splits)
-      (record { few = (all_small rows tidy).few_splits; each_small = (all_small rows tidy).each_small })
+  small : All IsSmall head.splits.items
+  small = subst (All IsSmall) (sym makes.splits) (all_small rows tidy).each_small
 
   held : AreHeldWell (length head.slots.items) head.splits.items
   held =
@@ -122,13 +120,14 @@ module _ (rows : List Statement) (tidy : AreTidy rows) (head : Head) (makes : Ma
       subst (λ n. (1 ≤ n) × (n ≤ 1000)) (sym makes.silence)
       (told_within 1 1000 3 (rows_of Silence rows) (silence_within rows tidy) (omega arith) (omega arith))
 
-  pub fit_head : IsFitHead head
-  fit_head = record {
+  pub fit_head : length (rows_of Split rows) ≤ 1024 → IsFitHead head
+  fit_head few = record {
     workers = workers_size ∙ sym slots_size;
     texts = in_order;
-    few_slots = subst (All (λ n. n ≤ 16)) (sym makes.slots)
-        (All-map (λ n. n ≤ 16) slots_told (rows_of Worker rows)
+    few_slots = subst (All (λ n. n ≤ 255)) (sym makes.slots)
+        (All-map (λ n. n ≤ 255) slots_told (rows_of Worker rows)
         (λ i d lt. (tidy_workers rows tidy i d lt).slots.most));
+    few_splits = omega (arith, splits_size, few);
     small_splits = small;
     held_well = held;
     few_documents = few_documents;

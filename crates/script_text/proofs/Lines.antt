@@ -1,6 +1,6 @@
 -- What the rows of a text without a fault come to, for documents and settings.
-use Rattle.std.proofs.Common.{ℕ, List, [], ◌∷◌, ◌≡◌, ◌≤◌, ◌<◌, ◌∙◌, Some, ap, arith, get_or, length, map}
-use Rattle.std.proofs.Common.{refl, subst, sym}
+use Rattle.std.proofs.Common.{ℕ, List, [], ◌∷◌, ◌≤◌, arith, get_or, length}
+use Rattle.std.proofs.Common.{refl}
 use Rattle.std.specs.List.{All, Contains}
 use Rattle.text_lines.specs.Texts.{Word}
 use Rattle.line_shapes.specs.Demands.{IsNumberWithin}

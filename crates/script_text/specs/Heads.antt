@@ -6,7 +6,7 @@ use Rattle.line_shapes.specs.Lines.{Statement}
 use Rattle.line_shapes.specs.declared.keyword.Keyword.TheVariants.{Centre, Rack, Worker, Split, Busy, Parts}
 use Rattle.line_shapes.specs.declared.keyword.Keyword.TheVariants.{Silence}
 use Rattle.line_rules.specs.Known.{rows_of}
-use Rattle.wave_problem.specs.Wave.{AreHeldWell, AreSmallSplits}
+use Rattle.wave_problem.specs.Wave.{AreHeldWell, IsSmall}
 use Rattle.wave_problem.specs.declared.TheConstants.{MAX_SLOTS}
 use Rattle.shuffle_reduce.specs.Gather.{values_of}
 use Rattle.plan_text.specs.Names.{names_of, nth_word}
@@ -35,7 +35,8 @@ pub record IsFitHead (head : Head) : Type 0 where
   pub texts : map (λ text. text.split) (values_of head.texts.items)
       ≡ range_with_len 0 (length head.splits.items)
   pub few_slots : All (λ n. n ≤ MAX_SLOTS) head.slots.items
-  pub small_splits : AreSmallSplits head.splits.items
+  pub few_splits : length head.splits.items ≤ 1024
+  pub small_splits : All IsSmall head.splits.items
   pub held_well : AreHeldWell (length head.slots.items) head.splits.items
   pub few_documents : sum_by (λ text. length text.documents) (values_of head.texts.items) ≤ 65536
   pub some_parts : 1 ≤ head.parts

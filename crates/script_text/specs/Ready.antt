@@ -55,7 +55,7 @@ IsWholeCommand names s = HasWords names s.keyword s.words
 -- each name has a number of its kind
 pub record AreFew (names : Names) : Type 0 where
   pub workers : length names.workers ≤ 256
-  pub splits : length names.splits ≤ 1024
+  pub splits : length names.splits ≤ 131072
 
 -- the names that the rows declare
 abbrev pub told_names : List Statement → Names

@@ -72,13 +72,13 @@ fn document_of(
 
 // The text of each split: list number n has the documents of split n.
 fn shared_texts(alloc: Global, lists: Vec<Vec<Document>>) -> Result<Vec<Arc<SplitText>>, AllocError>
-    requires { length lists.items ≤ 1024 }
+    requires { length lists.items ≤ 131072 }
     ensures { IfOk result (λ texts. values_of texts.items
         ≡ map text_of_split (enumerate_from 0 (map (λ list. list.items) lists.items))) }
 {
     let mut texts = Vec::with_capacity(alloc, lists.len())?;
     for documents in lists {
-        let text = SplitText::new(SplitNo::new(texts.len() as u16), documents);
+        let text = SplitText::new(SplitNo::new(texts.len() as u32), documents);
         texts.push(Arc::new(alloc, text)?)?;
     }
     Ok(texts)

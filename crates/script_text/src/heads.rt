@@ -1,5 +1,5 @@
-ghost use Rattle.std.specs.Prelude.{◌≡◌, IfOk, map};
-ghost use Rattle.line_shapes.specs.declared.keyword.Keyword.TheVariants.{Worker};
+ghost use Rattle.std.specs.Prelude.{◌≡◌, ◌≤◌, IfOk, length, map};
+ghost use Rattle.line_shapes.specs.declared.keyword.Keyword.TheVariants.{Split, Worker};
 ghost use Rattle.line_rules.specs.Known.{rows_of};
 ghost use Rattle.script_text.specs.Heads.{IsFitHead, MakesHead, slots_told};
 
@@ -32,6 +32,7 @@ pub struct Head {
 
 /// The head that the rows declare. The only error is want of memory.
 pub fn build_head(alloc: Global, rows: &TidyRows<'_, '_>) -> Result<Head, AllocError>
+    requires { length (rows_of Split rows.now) ≤ 1024 }
     ensures value { IfOk result (MakesHead rows.now) }
     ensures fit { IfOk result IsFitHead }
 {

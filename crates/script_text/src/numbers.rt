@@ -30,11 +30,11 @@ pub fn number_in(names: &NameTable<'_>, words: &[&str], place: usize) -> usize
 
 /// The number of the split that the word at a place names.
 pub fn split_at(names: &NameTable<'_>, words: &[&str], place: usize) -> SplitNo
-    requires few { length names.now ≤ 1024 }
+    requires few { length names.now ≤ 131072 }
     requires known { HasName names.now (map (λ w. w.now) words.now) place }
     ensures { IsNumbered names.now (word_at (map (λ w. w.now) words.now) place) result }
 {
-    SplitNo::new(number_in(names, words, place) as u16)
+    SplitNo::new(number_in(names, words, place) as u32)
 }
 
 /// The number of the worker that the word at a place names.
@@ -72,7 +72,7 @@ pub fn splits_from(
     words: &[&str],
     first: usize,
 ) -> Result<Vec<SplitNo>, AllocError>
-    requires few { length names.now ≤ 1024 }
+    requires few { length names.now ≤ 131072 }
     requires whole { first ≤ length words.now }
     requires known { HaveNames names.now (map (λ w. w.now) words.now) first }
     ensures { IfOk result (λ splits.

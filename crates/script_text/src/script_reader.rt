@@ -1,5 +1,6 @@
-ghost use Rattle.std.specs.Prelude.{◌≡◌, ◌≤◌, All, IfErr, IfOk, length};
-ghost use Rattle.line_shapes.specs.declared.keyword.Keyword.TheVariants.{Target};
+ghost use Rattle.std.specs.Prelude.{◌≡◌, ◌≤◌, ◌⊎◌, All, IfErr, IfOk, length};
+ghost use Rattle.line_shapes.specs.declared.keyword.Keyword.TheVariants.{Split, Target};
+ghost use Rattle.line_rules.specs.Known.{rows_of};
 ghost use Rattle.line_rules.specs.Entering.{most_workers};
 ghost use Rattle.line_rules.specs.Reading.{IsReadingError};
 ghost use Rattle.line_rules.specs.declared.purpose.Purpose.TheVariants.{Playing, Running};
@@ -64,6 +65,7 @@ pub fn read_opening(
 
 // What a text declares, by the rules of what it is read for.
 fn read_for(alloc: Global, purpose: Purpose, text: &[u8]) -> Result<ScriptText<'_>, ReadingError>
+    requires { (purpose ≡ Playing) ⊎ (purpose ≡ Running) }
     ensures ok { IfOk result (IsScriptOf purpose text.entry.now) }
     ensures fit { IfOk result (λ value. IsFitHead value.head) }
     ensures known { IfOk result (λ value. IsOfHead value.head value.script) }
@@ -78,6 +80,7 @@ fn read_for(alloc: Global, purpose: Purpose, text: &[u8]) -> Result<ScriptText<'
 // What the lines that were read declare.
 fn script_of<'t>(alloc: Global, known: &KnownLines<'t>) -> Result<ScriptText<'t>, AllocError>
     requires tidy { AreTidy known.now.rows }
+    requires few { length (rows_of Split known.now.rows) ≤ 1024 }
     requires ready { All (IsWholeCommand (told_names known.now.rows)) known.now.commands }
     ensures script { IfOk result (λ value. Declares known.now value.script) }
     ensures head { IfOk result (λ value. MakesHead known.now.rows value.head) }

@@ -1,6 +1,7 @@
 -- A stream read or written piece by piece; a text cut at its first line feed; the keys of a table;
 -- words of digits.
 pub mod Pieces
+pub mod Lengths
 pub mod Splitting
 pub mod Keys
 pub mod NumberedLines

@@ -1,8 +1,21 @@
 -- What a reader gives and a writer takes, where their bytes are known.
-use Rattle.std.specs.Prelude.{ℕ, List, ◌≡◌, ◌++◌, ◌≤◌, length, Option}
+use Rattle.std.specs.Prelude.{ℕ, List, ◌≡◌, ◌++◌, ◌+◌, ◌≤◌, ◌==◌, codes, cond, length, Option}
+use Rattle.std.specs.List.{starts_with}
 use Rattle.std.specs.Io.KnownBytes.{Appends, Consumes}
 
--- the most bytes that are read of a text: one more than the longest has
+-- the first line of a text that may be long
+abbrev pub long_head : List ℕ
+long_head = codes "problem 3\n"
+
+-- how many bytes a text may have: 16 MiB, and 256 MiB where that is its first line
+abbrev pub longest : List ℕ → ℕ
+longest text = cond (starts_with (λ a b. a == b) text long_head) 268435456 16777216
+
+-- the most bytes that are read of a text: one more than it may have
+abbrev pub most_read_of : List ℕ → ℕ
+most_read_of text = longest text + 1
+
+-- of a text that may not be long
 abbrev pub most_read : ℕ
 most_read = 16777217
 
@@ -17,6 +30,12 @@ pub record AppendsFront (old new : Option (List ℕ)) (text : List ℕ) : Type 0
 pub record ConsumesAtMost (old new : Option (List ℕ)) (most : ℕ) : Type 0 where
   pub bytes : List ℕ
   pub few : length bytes ≤ most
+  pub consumed : Consumes old new bytes
+
+-- a reader lost no more bytes than are read of a text that begins so
+pub record ConsumesText (old new : Option (List ℕ)) : Type 0 where
+  pub bytes : List ℕ
+  pub few : length bytes ≤ most_read_of bytes
   pub consumed : Consumes old new bytes
 
 -- what a reader lost stands at the end of the text

@@ -17,5 +17,7 @@ pub use fault::{Fault, TextFault, fault_line};
 pub use lines::{add_words, has_printable_lines, printable, printable_in, split_line, split_word};
 pub use names::{is_long_name, is_name};
 pub use number::{Number, value_in};
-pub use streams::{MAX_READ_BYTES, MAX_READS, ReadError, WriteError, read_text, write_text};
+pub use streams::{
+    MAX_READ_BYTES, MAX_READS, ReadError, WriteError, longest, read_text, write_text,
+};
 pub use tables::NameTable;

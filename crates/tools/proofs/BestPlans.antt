@@ -1,7 +1,9 @@
 -- What is said of a plan of the problem that was read is said of the text, and a check of what is written
 -- certifies it.
 use Rattle.std.proofs.Common.{ℕ, zero, suc, List, [], ◌∷◌, ◌++◌, Option, Bool, ◌≡◌, ◌<◌, ◌≤◌, ◌^◌, ◌∙◌}
-use Rattle.std.proofs.Common.{length, slice_index, sym, subst, arith}
+use Rattle.std.proofs.Common.{length, slice_index, sym, subst, arith, Ok, Err}
+use Rattle.std.specs.declared.result.Result.{Result}
+use Rattle.text_lines.specs.declared.fault.TextFault.{TextFault}
 use Rattle.std.specs.List.{All}
 use Rattle.std.proofs.lemmas.List.Elements.{All-cons, All-nil}
 use Rattle.std.proofs.lemmas.Grind.{common_steps}
@@ -14,9 +16,10 @@ use Rattle.price_certificate.specs.Certificate.{Certifies, Claim, HasOneSize, cl
 use Rattle.price_certificate.specs.declared.Condition.TheVariants.{Allowed, SplitPrice, WorkerPrice}
 use Rattle.price_certificate.specs.PriceList.{PriceList}
 use Rattle.flow_network.specs.declared.kinds.NetworkKind.{NetworkKind}
-use Rattle.wave_planner.specs.Planned.{IsMadeOver}
+use Rattle.wave_planner.specs.Planned.{IsMadeOver, IsPast}
 use Rattle.text_lines.specs.Texts.{Word}
 use Rattle.line_rules.specs.declared.purpose.Purpose.TheVariants.{Planning}
+use Rattle.plan_text.specs.Names.{splits, workers}
 use Rattle.plan_text.specs.Reading.{HasFitLines, IsProblemOf}
 use Rattle.plan_text.specs.Report.{certified_line, start_lines}
 use Rattle.text_lines.specs.WaveLine.{wave_line}
@@ -24,9 +27,12 @@ use Rattle.plan_text.specs.declared.built.ProblemText.{ProblemText}
 use Rattle.written_plan.specs.Joined.{IsWritable, ReadsBack}
 use Rattle.written_plan.proofs.ReadBack.{written_plan_reads_back}
 use Rattle.tools.specs.CheckAnswer.{AnswersRead, SaysCertified}
-use Rattle.tools.specs.PlanAnswer.{ChecksAgain, PlansProblem, PlansRead, SaysPlanned, asked_prices, plan_cost}
-use Rattle.tools.specs.PlanAnswer.{plan_count}
+use Rattle.tools.specs.PlanAnswer.{AnswersProblem, ChecksAgain, PlanAnswer, PlansProblem, PlansRead}
+use Rattle.tools.specs.PlanAnswer.{SaysPlanned}
+use Rattle.tools.specs.PlanAnswer.{asked_prices, plan_cost, plan_count}
 use Rattle.tools.specs.declared.program_end.CheckEnd.TheVariants.{Certified}
+use Rattle.tools.specs.declared.program_end.PlanEnd.{PlanEnd}
+use Rattle.tools.specs.declared.program_end.PlanEnd.TheVariants.{PastNetwork, Planned}
 
 -- the line on a plan that is certified
 abbrev line_on : Claim → List ℕ
@@ -54,11 +60,40 @@ pub plans_read : (text : List ℕ) (v : ProblemText) (network : NetworkKind) (wi
     → PlansRead text network with_prices lines
 plans_read text v network with_prices lines read fit plans =
     let c = claim v.problem plans.starts plans.prices in
-    let again =
-    checks_again text v plans.starts plans.prices with_prices lines read fit plans.sized plans.says in
-    let splits_are = read.declares.splits in
-    let workers_are = read.declares.workers in
-    grind arith
+    let names : (v.splits ≡ splits read.statements) × (v.workers ≡ workers read.statements) =
+    (read.declares.splits, read.declares.workers) in
+    record {
+      statements = read.statements;
+      wave = v.problem;
+      starts = plans.starts;
+      prices = plans.prices;
+      reads = read.reads;
+      declared = read.declares.wave;
+      fits = plans.fits;
+      over = plans.over;
+      says = subst (λ (p : List Word × List Word). SaysPlanned with_prices c p.0 p.1 lines)
+          (λ i. (names.0 i, names.1 i)) plans.says;
+      checks = subst (λ (p : List Word × List Word). ChecksAgain text c p.0 p.1)
+          (λ i. (names.0 i, names.1 i))
+          (checks_again text v plans.starts plans.prices with_prices lines read fit plans.sized plans.says);
+    }
+
+-- what answers the problem answers the text
+pub answers_read : (text : List ℕ) (v : ProblemText) (network : NetworkKind) (with_prices : Bool)
+    (end : Result PlanEnd TextFault) (lines : List ℕ) → IsProblemOf text v → HasFitLines Planning text
+    → AnswersProblem v.problem v.splits v.workers network with_prices end lines
+    → PlanAnswer text network with_prices end lines
+answers_read text v network with_prices (Ok Planned) lines read fit answer =
+    plans_read text v network with_prices lines read fit answer
+answers_read text v network with_prices (Ok PastNetwork) lines read fit answer = record {
+  statements = read.statements;
+  wave = v.problem;
+  reads = read.reads;
+  declared = read.declares.wave;
+  past = answer.0;
+  silent = answer.1;
+}
+answers_read text v network with_prices (Err fault) lines read fit answer = absurd answer
 
 -- ---- a plan that was made for a problem
 
@@ -99,11 +134,23 @@ small_reward wave limits =
 -- the lines of its count, cost and starts, and then those of its prices if they are asked for
 pub plans_problem : (network : NetworkKind) (with_prices : Bool) (ss ws : List Word) (c : Claim)
     (plan_workers : ℕ) (lines : List ℕ) → length ss ≡ length c.wave.splits
-    → length ws ≡ length c.wave.workers → IsMadeOver network c.wave c.starts c.prices
+    → length ws ≡ length c.wave.workers → (IsPast network c.wave → ⊥)
+    → IsMadeOver network c.wave c.starts c.prices
     → HasOneSize c plan_workers → Certifies c → IsBest c.wave (pairs_of c.starts)
     → reward c.wave < 2 ^ 64
     → lines ≡ (wave_line (plan_count c) (plan_cost c) ++ start_lines ss ws c.starts)
     ++ asked_prices with_prices ss ws c.prices
     → PlansProblem c.wave ss ws network with_prices lines
-plans_problem network asked ss ws c n lines as_splits as_workers over sized certifies best small said =
-    grind (arith, plan_for_names)
+plans_problem network asked ss ws c n lines as_splits as_workers fits over sized certifies best small said =
+    record {
+      starts = c.starts;
+      prices = c.prices;
+      sized = plan_for_names ss ws c n as_splits as_workers sized certifies small;
+      fits = fits;
+      over = over;
+      says = record {
+        certifies = certifies;
+        best = best;
+        said = said;
+      };
+    }

@@ -14,9 +14,10 @@ use Rattle.tools.specs.declared.program_end.CheckEnd.{CheckEnd}
 use Rattle.tools.specs.declared.program_end.CheckEnd.TheVariants as check
 use Rattle.tools.specs.declared.program_end.Ending.{Ending}
 use Rattle.tools.specs.declared.program_end.Ending.TheVariants.{Failed, GateLimit, Left, Misused, NoThread}
-use Rattle.tools.specs.declared.program_end.Ending.TheVariants.{Refused, Stuck, Torn, Well}
+use Rattle.tools.specs.declared.program_end.Ending.TheVariants.{PastNetwork, Refused, Stuck, Torn, Well}
 use Rattle.tools.specs.declared.program_end.Message.{Message}
 use Rattle.tools.specs.declared.program_end.PlanEnd.{PlanEnd}
+use Rattle.tools.specs.declared.program_end.PlanEnd.TheVariants as plan
 
 abbrev pub ending_of_check : Result CheckEnd ToolError → Ending
 ending_of_check (Ok check.Certified) = Well
@@ -24,7 +25,8 @@ ending_of_check (Ok (check.Refused condition)) = Refused
 ending_of_check (Err error) = Failed error
 
 abbrev pub ending_of_plan : Result PlanEnd ToolError → Ending
-ending_of_plan (Ok end) = Well
+ending_of_plan (Ok plan.Planned) = Well
+ending_of_plan (Ok plan.PastNetwork) = PastNetwork
 ending_of_plan (Err error) = Failed error
 
 abbrev pub ending_of_explaining : Result (Unit {0}) ToolError → Ending
@@ -54,6 +56,7 @@ status_of (Torn place) = 6
 status_of NoThread = 6
 status_of GateLimit = 6
 status_of Misused = 64
+status_of PastNetwork = 64
 status_of Left = 141
 
 -- the digits of a number that follows
@@ -73,4 +76,5 @@ message_of (Failed HistoryFull) = Some (codes "mrjob: history full")
 message_of (Torn place) = Some (codes "mrjob: torn at " ++ decimal place)
 message_of NoThread = Some (codes "mrjob: no thread")
 message_of GateLimit = Some (codes "mrjob: gate limit")
+message_of PastNetwork = Some (codes "mrjob: too many splits for a direct network")
 message_of ending = None

@@ -1,10 +1,10 @@
-ghost use Rattle.std.specs.Prelude.{◌≡◌, ◌≢◌, ◌≤◌, ◌++◌, Err, IfOk, Ok, OnOk, length, string_bytes};
+ghost use Rattle.std.specs.Prelude.{◌≡◌, ◌≢◌, ◌≤◌, ◌++◌, Err, IfOk, OnOk, length, string_bytes};
 ghost use Rattle.rack_tree.specs.declared.TheConstants.{MAX_WORKERS};
 ghost use Rattle.wave_problem.specs.declared.TheConstants.{MAX_SPLITS};
 ghost use Rattle.command_runner.specs.CommandRun.{HasRun, NoText, AnyLines};
 ghost use Rattle.plan_text.specs.Report.{start_lines};
 ghost use Rattle.text_lines.specs.WaveLine.{wave_line};
-ghost use Rattle.tools.specs.PlanAnswer.{PlanAnswer, PlansProblem, asked_prices};
+ghost use Rattle.tools.specs.PlanAnswer.{AnswersProblem, PlanAnswer, asked_prices};
 ghost use Rattle.tools.specs.OneAnswer.{one_plan_answer};
 
 use crate::program_end::PlanEnd;
@@ -22,7 +22,8 @@ use wave_planner::{PlanError, Planned, plan_with};
 /// Reads a problem, and writes a best plan of its map starts, made over the network of the options, with
 /// prices if they ask for them, or the text's least fault. All lines are made before their first byte is
 /// written. The starts and prices, put with a line `plan` in front of the problem's line `end`, are a text
-/// that `check` certifies, where it has at most 16,777,216 bytes.
+/// that `check` certifies, where it is no longer than a text may be. Where the problem has more splits than a
+/// direct network is built for, and one is asked for, nothing is written.
 pub fn plan<R: Read, W: Write>(
     alloc: Global,
     reader: &mut R,
@@ -73,31 +74,19 @@ fn planned_answer(
 ) -> Result<(String, Result<PlanEnd, TextFault>), NoAnswer>
     requires splits { length read.now.splits ≡ length read.now.problem.splits }
     requires workers { length read.now.workers ≡ length read.now.problem.workers }
-    ensures answer { IfOk result (λ given. (given.1 ≡ Ok PlanEnd.Planned)
-        × PlansProblem read.now.problem read.now.splits read.now.workers options.network
-        options.prices (string_bytes given.0)) }
+    ensures answer { IfOk result (λ given. AnswersProblem read.now.problem read.now.splits read.now.workers
+        options.network options.prices given.1 (string_bytes given.0)) }
     ensures never_full { result ≢ Err NoAnswer.HistoryFull }
-{
-    let lines = plan_lines(alloc, read, options)?;
-    Ok((lines, Ok(PlanEnd::Planned)))
-}
-
-// The lines on a best plan of the problem that was read.
-fn plan_lines(
-    alloc: Global,
-    read: &ProblemText<'_>,
-    options: PlanOptions,
-) -> Result<String, AllocError>
-    requires splits { length read.now.splits ≡ length read.now.problem.splits }
-    requires workers { length read.now.workers ≡ length read.now.problem.workers }
-    ensures { IfOk result (λ lines. PlansProblem read.now.problem read.now.splits read.now.workers
-        options.network options.prices (string_bytes lines)) }
 {
     // (a law: there are few workers, and no price is past what can be read back)
     read.problem.limits();
     match plan_with(alloc, &read.problem, options.network) {
-        Ok(best) => lines_on(alloc, read, &best, options.prices),
-        Err(PlanError::Memory) => Err(AllocError),
+        Ok(best) => {
+            let lines = lines_on(alloc, read, &best, options.prices)?;
+            Ok((lines, Ok(PlanEnd::Planned)))
+        }
+        Err(PlanError::Size) => Ok((String::new(alloc), Ok(PlanEnd::PastNetwork))),
+        Err(PlanError::Memory) => Err(NoAnswer::Memory),
     }
 }
 

@@ -20,6 +20,8 @@ pub enum CheckEnd {
 pub enum PlanEnd {
     /// A best plan, which its prices certify.
     Planned,
+    /// The problem has more splits than the network is built for, and nothing was written.
+    PastNetwork,
 }
 
 /// How the program ends.
@@ -33,6 +35,8 @@ pub enum Ending {
     Stuck,
     /// The words of the command line ask for nothing.
     Misused,
+    /// The words of the command line ask for a network that is not built for so many splits.
+    PastNetwork,
     /// The command has no answer of its own.
     Failed(ToolError),
     /// The history of a job's threads is not made of their calls, from this place on.
@@ -70,6 +74,7 @@ impl Ending {
     {
         match end {
             Ok(PlanEnd::Planned) => Ending::Well,
+            Ok(PlanEnd::PastNetwork) => Ending::PastNetwork,
             Err(error) => Ending::Failed(error),
         }
     }
@@ -107,7 +112,7 @@ impl Ending {
             Ending::Failed(ToolError::Read | ToolError::Write) => 4,
             Ending::Failed(ToolError::HistoryFull) => 5,
             Ending::Torn(_) | Ending::NoThread | Ending::GateLimit => 6,
-            Ending::Misused => 64,
+            Ending::Misused | Ending::PastNetwork => 64,
             Ending::Left => 141,
         }
     }
@@ -127,6 +132,7 @@ impl Ending {
             }),
             Ending::NoThread => Some(plain("mrjob: no thread")),
             Ending::GateLimit => Some(plain("mrjob: gate limit")),
+            Ending::PastNetwork => Some(plain("mrjob: too many splits for a direct network")),
             Ending::Failed(ToolError::Text(_)) => None,
             Ending::Well | Ending::Refused | Ending::Stuck | Ending::Misused | Ending::Left => None,
         }

@@ -5,7 +5,9 @@ use Rattle.std.specs.Prelude.{◌==◌}
 use Rattle.std.proofs.lemmas.Bool.{cases_Bool, cases_eq, cases_lt, ne_eqb}
 use Rattle.std.proofs.lemmas.List.{get_or_past}
 use Rattle.std.proofs.lemmas.List.Sums.{get_or-le-sum_by}
+use Rattle.rack_tree.specs.declared.TheConstants.{MAX_WORKERS}
 use Rattle.wave_problem.specs.Sums.{sum_below}
+use Rattle.wave_problem.specs.declared.TheConstants.{MAX_SLOTS}
 use Rattle.wave_problem.specs.declared.lines.WorkerLine.{WorkerLine}
 use Rattle.wave_problem.specs.Wave.{Wave, IsUsable, IsWithinLimits, worker_at}
 use Rattle.wave_problem.proofs.Grouping.{sum_below-same, sum_below-zero, sum_below-one}
@@ -80,14 +82,15 @@ sum_below-most zero m f few = omega arith
 sum_below-most (suc n) m f few = (let rest = sum_below-most n m f few in let last = few n in grind arith)
 
 -- no node has more slots under it than all workers together may have
-pub slots-most : (wave : Wave) → IsWithinLimits wave → (v : TreeNode) → sum_under wave v (slots_of wave) ≤ 4096
+pub slots-most : (wave : Wave) → IsWithinLimits wave → (v : TreeNode)
+    → sum_under wave v (slots_of wave) ≤ MAX_SLOTS * MAX_WORKERS
 slots-most wave within v =
-    let most = sum_below-most (length wave.workers) 16
+    let most = sum_below-most (length wave.workers) MAX_SLOTS
     (λ w. cond (is_under wave.tree (Worker w) v) (slots_of wave w) 0) (λ w. few w (is_under wave.tree (Worker w) v)) in
     let workers = within.few_workers in
     omega arith
   where
-    line : (w : ℕ) → (worker_at wave w).free ≤ 16
+    line : (w : ℕ) → (worker_at wave w).free ≤ MAX_SLOTS
     line w = elim (cases_lt w (length wave.workers)) [
       | inl known ↦ within.slots w _ known
       | inr past ↦
@@ -96,7 +99,7 @@ slots-most wave within v =
           omega arith)
     ]
 
-    few : (w : ℕ) (b : Bool) → cond b (slots_of wave w) 0 ≤ 16
+    few : (w : ℕ) (b : Bool) → cond b (slots_of wave w) 0 ≤ MAX_SLOTS
     few w true = (let most = line w in elim (cases_Bool (worker_at wave w).live) [
       | inl live ↦ rw live most
       | inr dead ↦ rw dead (omega arith)

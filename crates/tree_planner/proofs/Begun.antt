@@ -19,8 +19,8 @@ use Rattle.tree_planner.specs.declared.search.Cover.{Cover}
 pub begun : (g : Ground) → IsGround g → (search : Search) → IsBlank (wave_of g).tree (length g.nodes.now) search
     → (split least : ℕ) → split < length (wave_of g).splits → least ≤ reward (wave_of g)
     → (covers : NodeTable Cover) → IsOver (wave_of g).tree covers
-    → ((v : TreeNode) → at_or covers (record { offset = 2 ^ 49; split = split }) v
-    ≡ record { offset = 2 ^ 49; split = split })
+    → ((v : TreeNode) → at_or covers (record { offset = 2 ^ 55; split = split }) v
+    ≡ record { offset = 2 ^ 55; split = split })
     → IsSearching g (record search {
       split = split;
       least = least;
@@ -81,11 +81,11 @@ IsLater search k v = (j : ℕ) × (k ≤ j) × (j < search.reached.count) × (re
 
 -- the node is as if it had not been come to, or stands there
 abbrev pub IsForgotten : Search → Search → ℕ → TreeNode → Type 0
-IsForgotten old now k v = ((2 ^ 48 ≤ far_at now v) × (order_at now v ≡ 0)) ⊎ IsLater old k v
+IsForgotten old now k v = ((2 ^ 54 ≤ far_at now v) × (order_at now v ≡ 0)) ⊎ IsLater old k v
 
-pub forgotten_first : (tree : Tree) (old : Search) → HasReached tree old → old.limit < 2 ^ 48 → (v : TreeNode)
+pub forgotten_first : (tree : Tree) (old : Search) → HasReached tree old → old.limit < 2 ^ 54 → (v : TreeNode)
     → IsForgotten old old 0 v
-forgotten_first tree old r short v = elim (cases_lt (far_at old v) (2 ^ 48)) [
+forgotten_first tree old r short v = elim (cases_lt (far_at old v) (2 ^ 54)) [
   | inl near ↦ inr (let at = r.each v near in (at.0, omega arith, at.1, at.2))
   | inr past ↦ inl (
     past,
@@ -97,7 +97,7 @@ forgotten_first tree old r short v = elim (cases_lt (far_at old v) (2 ^ 48)) [
 ]
 
 pub forgotten_next : (old now new : Search) (k : ℕ) (node : TreeNode) → reached_at old k ≡ node
-    → 2 ^ 48 ≤ far_at new node → order_at new node ≡ 0
+    → 2 ^ 54 ≤ far_at new node → order_at new node ≡ 0
     → ((v : TreeNode) → v ≢ node → far_at new v ≡ far_at now v)
     → ((v : TreeNode) → v ≢ node → order_at new v ≡ order_at now v)
     → (v : TreeNode) → IsForgotten old now k v → IsForgotten old new (k + 1) v

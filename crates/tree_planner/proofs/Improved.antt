@@ -208,16 +208,16 @@ improves_trans a b c i j = record {
 
 -- a node that was come to nearer
 module _ (old : Search) (far : NodeTable ℕ) (how : NodeTable Step) (node : TreeNode) (distance : ℕ) (step : Step)
-    (bound : distance < old.bound) (near : distance < far_at old node) (short : distance < 2 ^ 48) (b : ℕ) (end : Goal) (less : b ≤ old.bound)
+    (bound : distance < old.bound) (near : distance < far_at old node) (short : distance < 2 ^ 54) (b : ℕ) (end : Goal) (less : b ≤ old.bound)
     (beyond : (u : TreeNode) → 0 < order_at old u → far_at old u ≤ distance)
     (here : (d : ℕ) → at_or far d node ≡ distance)
     (others : (d : ℕ) (v : TreeNode) → v ≢ node → at_or far d v ≡ at_or old.far d v)
     (how_here : (d : Step) → at_or how d node ≡ step)
     (how_others : (d : Step) (v : TreeNode) → v ≢ node → at_or how d v ≡ at_or old.how d v)
     (row : Reached) (row_room : length row.nodes.items ≡ length old.reached.nodes.items)
-    (row_count : 2 ^ 48 ≤ far_at old node → row.count ≡ old.reached.count + 1)
-    (row_node : 2 ^ 48 ≤ far_at old node → row.nodes.items ≡ slice_set old.reached.nodes.items old.reached.count node)
-    (row_same : far_at old node < 2 ^ 48 → row ≡ old.reached) where
+    (row_count : 2 ^ 54 ≤ far_at old node → row.count ≡ old.reached.count + 1)
+    (row_node : 2 ^ 54 ≤ far_at old node → row.nodes.items ≡ slice_set old.reached.nodes.items old.reached.count node)
+    (row_same : far_at old node < 2 ^ 54 → row ≡ old.reached) where
   abbrev reached : Search
   reached = record old { far = far; how = how; reached = row; bound = b; goal = end }
 
@@ -235,23 +235,23 @@ module _ (old : Search) (far : NodeTable ℕ) (how : NodeTable Step) (node : Tre
     bound = omega arith;
     far = λ v. elim (same_or_not v node) [
       | inl e ↦
-          (let now = here (2 ^ 48) in
+          (let now = here (2 ^ 54) in
           let a = ap (far_at reached) e in
           let b = ap (far_at old) e in
           omega arith)
-      | inr n ↦ (let same = others (2 ^ 48) v n in omega arith)
+      | inr n ↦ (let same = others (2 ^ 54) v n in omega arith)
     ];
-    settled = λ u some. others (2 ^ 48) u (λ e. (let none = is_open in
+    settled = λ u some. others (2 ^ 54) u (λ e. (let none = is_open in
         let a = ap (order_at old) e in omega arith));
   }
 
   far_there : far_at reached node ≡ distance
-  far_there = here (2 ^ 48)
+  far_there = here (2 ^ 54)
 
   -- the row has the node, where it was not come to before
-  row_kept : (tree : Tree) → IsNode tree node → HasReached tree old → old.bound ≤ old.limit → old.limit < 2 ^ 48
-      → (2 ^ 48 ≤ far_at old node → HasRoom old) → HasReached tree reached
-  row_kept tree known r most short room = elim (cases_lt (far_at old node) (2 ^ 48)) [
+  row_kept : (tree : Tree) → IsNode tree node → HasReached tree old → old.bound ≤ old.limit → old.limit < 2 ^ 54
+      → (2 ^ 54 ≤ far_at old node → HasRoom old) → HasReached tree reached
+  row_kept tree known r most short room = elim (cases_lt (far_at old node) (2 ^ 54)) [
     | inl before ↦
         (let same = row_same before in
         subst (λ row. HasReached tree (record old { far = far; how = how; reached = row; bound = b; goal = end })) (sym same)
@@ -262,7 +262,7 @@ module _ (old : Search) (far : NodeTable ℕ) (how : NodeTable Step) (node : Tre
           once = r.once;
           each = λ v near. elim (same_or_not v node) [
             | inl e ↦ r.each v (let a = ap (far_at old) e in omega arith)
-            | inr n ↦ r.each v (let same = others (2 ^ 48) v n in omega arith)
+            | inr n ↦ r.each v (let same = others (2 ^ 54) v n in omega arith)
           ];
           looked = λ v some. (let less = reach_nearer.far v in let near = r.looked v some in omega arith);
         }))
@@ -310,7 +310,7 @@ module _ (old : Search) (far : NodeTable ℕ) (how : NodeTable Step) (node : Tre
           each = λ v near. elim (same_or_not v node) [
             | inl e ↦ (old.reached.count, omega arith, own ∙ sym e)
             | inr n ↦
-                (let at = r.each v (let same = others (2 ^ 48) v n in omega arith) in
+                (let at = r.each v (let same = others (2 ^ 54) v n in omega arith) in
                 (at.0, (let l = at.1 in omega arith), other at.0 at.1 ∙ at.2))
           ];
           looked = λ v some. (let less = reach_nearer.far v in let near = r.looked v some in omega arith);
@@ -320,17 +320,17 @@ module _ (old : Search) (far : NodeTable ℕ) (how : NodeTable Step) (node : Tre
   -- no more stand in it than nodes that were come to
   row_fit : (g : Ground) → IsGround g → IsNode (wave_of g).tree node
       → old.reached.count ≤ count_by (has_come old) g.nodes.now → row.count ≤ count_by (has_come reached) g.nodes.now
-  row_fit g ground known fit = elim (cases_lt (far_at old node) (2 ^ 48)) [
+  row_fit g ground known fit = elim (cases_lt (far_at old node) (2 ^ 54)) [
     | inl before ↦
         (let same = ap (λ (r : Reached). r.count) (row_same before) in
-        let grows = count_grows (has_come old) (has_come reached) (λ v come. lt-ltb (far_at reached v) (2 ^ 48)
-        (let less = reach_nearer.far v in let near = ltb-true (far_at old v) (2 ^ 48) come in omega arith)) g.nodes.now in
+        let grows = count_grows (has_come old) (has_come reached) (λ v come. lt-ltb (far_at reached v) (2 ^ 54)
+        (let less = reach_nearer.far v in let near = ltb-true (far_at old v) (2 ^ 54) come in omega arith)) g.nodes.now in
         omega arith)
     | inr fresh ↦
         (let count = row_count fresh in
         let more = count_less (has_come reached) (has_come old) node
-        (lt-ltb (far_at reached node) (2 ^ 48) (let there = far_there in omega arith)) (le-ltb (far_at old node) (2 ^ 48) fresh)
-        (λ v n. ap (λ (d : ℕ). nat_lt d (2 ^ 48)) (sym (others (2 ^ 48) v n))) g.nodes.now (ground.nodes.each node known) in
+        (lt-ltb (far_at reached node) (2 ^ 54) (let there = far_there in omega arith)) (le-ltb (far_at old node) (2 ^ 54) fresh)
+        (λ v n. ap (λ (d : ℕ). nat_lt d (2 ^ 54)) (sym (others (2 ^ 54) v n))) g.nodes.now (ground.nodes.each node known) in
         omega arith)
   ]
 
@@ -351,11 +351,11 @@ module _ (old : Search) (far : NodeTable ℕ) (how : NodeTable Step) (node : Tre
     few = s.few;
     steps = λ v less. elim (same_or_not v node) [
       | inl e ↦ subst (λ v. LeadsTo g reached v (far_at reached v) (step_at reached v)) (sym e)
-          (subst (λ d. LeadsTo g reached node d (step_at reached node)) (sym (here (2 ^ 48)))
+          (subst (λ d. LeadsTo g reached node d (step_at reached node)) (sym (here (2 ^ 54)))
           (subst (λ st. LeadsTo g reached node distance st) (sym (how_here Down))
           (leads_kept old reached reach_nearer (λ u x b. b) (λ u some. some) g node distance step (leads is_open))))
       | inr n ↦
-          (let same = others (2 ^ 48) v n in
+          (let same = others (2 ^ 54) v n in
           subst (λ d. LeadsTo g reached v d (step_at reached v)) (sym same)
           (subst (λ st. LeadsTo g reached v (far_at old v) st) (sym (how_others Down v n))
           (leads_kept old reached reach_nearer (λ u x b. b) (λ u some. some) g v (far_at old v) (step_at old v) (s.steps v (omega arith)))))
@@ -364,11 +364,11 @@ module _ (old : Search) (far : NodeTable ℕ) (how : NodeTable Step) (node : Tre
         (let one = reach_nearer.settled u some in
         elim (same_or_not v node) [
           | inl e ↦
-              (let now = here (2 ^ 48) in
+              (let now = here (2 ^ 54) in
               let a = ap (far_at reached) e in
               let past = beyond u some in
               omega arith)
-          | inr n ↦ (let same = others (2 ^ 48) v n in let level = s.level u v some none in omega arith)
+          | inr n ↦ (let same = others (2 ^ 54) v n in let level = s.level u v some none in omega arith)
         ]);
     goal = ends;
     bottom = bottom;
@@ -377,7 +377,7 @@ module _ (old : Search) (far : NodeTable ℕ) (how : NodeTable Step) (node : Tre
   }
 
   far_other : (v : TreeNode) → v ≢ node → far_at reached v ≡ far_at old v
-  far_other v n = others (2 ^ 48) v n
+  far_other v n = others (2 ^ 54) v n
 
   -- a slot is free under it, and a way ends there, or none is
   pub ends_there : (g : Ground) → IsSearching g old → IsNode (wave_of g).tree node
@@ -385,14 +385,14 @@ module _ (old : Search) (far : NodeTable ℕ) (how : NodeTable Step) (node : Tre
   ends_there g s known some is = record {
     known = known;
     some = some;
-    reached = (let now = here (2 ^ 48) in let most = s.bound in omega arith);
-    near = (let now = here (2 ^ 48) in omega arith);
+    reached = (let now = here (2 ^ 54) in let most = s.bound in omega arith);
+    near = (let now = here (2 ^ 54) in omega arith);
   }
 
   pub bottom_there : (g : Ground) → IsSearching g old → b ≡ distance
       → (v : TreeNode) → 0 < sum_under (wave_of g) v (state_at g).free → b ≤ far_at reached v
   bottom_there g s is v some = elim (same_or_not v node) [
-    | inl e ↦ (let now = here (2 ^ 48) in let a = ap (far_at reached) e in omega arith)
+    | inl e ↦ (let now = here (2 ^ 54) in let a = ap (far_at reached) e in omega arith)
     | inr n ↦ (let same = far_other v n in let past = s.bottom v some in omega arith)
   ]
 
@@ -642,10 +642,10 @@ module _ (old : Search) (covers : NodeTable Cover) (rack : ℕ) (cover : Cover)
     shut = s.shut;
     covered = λ r. elim (same_or_not (Rack r) (Rack rack)) [
       | inl e ↦ subst (λ (q : ℕ). IsCovered g covering (cover_at covering q) q) (rack_same r rack e)
-          (subst (λ cover. IsCovered g covering cover rack) (sym (here (record { offset = 2 ^ 49; split = old.split })))
+          (subst (λ cover. IsCovered g covering cover rack) (sym (here (record { offset = 2 ^ 55; split = old.split })))
           (cover_kept old covering covered_nearer g cover rack covered))
       | inr n ↦ subst (λ cover. IsCovered g covering cover r)
-          (sym (others (record { offset = 2 ^ 49; split = old.split }) (Rack r) n))
+          (sym (others (record { offset = 2 ^ 55; split = old.split }) (Rack r) n))
           (cover_kept old covering covered_nearer g (cover_at old r) r (s.covered r))
     ];
   }

@@ -56,7 +56,7 @@ pub least_of_all : (g : Ground) (search : Search) (best : Candidate) → IsGroun
     → ((k : ℕ) → k < search.reached.count → order_at search (reached_at search k) ≡ 0
     → best.far ≤ far_at search (reached_at search k))
     → (v : TreeNode) → order_at search v ≡ 0 → best.far ≤ far_at search v
-least_of_all g search best ground s is seen v none = elim (cases_lt (far_at search v) (2 ^ 48)) [
+least_of_all g search best ground s is seen v none = elim (cases_lt (far_at search v) (2 ^ 54)) [
   | inl near ↦
       (let at = s.reached.each v near in
       subst (λ (v : TreeNode). order_at search v ≡ 0 → best.far ≤ far_at search v) at.2 (seen at.0 at.1) none)

@@ -9,9 +9,9 @@ use Rattle.tree_planner.specs.Searching.{far_at, has_come, wave_of, HasRoom, IsG
 use Rattle.tree_planner.proofs.Counted.{count_missed}
 
 pub room_left : (g : Ground) (search : Search) → IsGround g → IsSearching g search → (v : TreeNode)
-    → IsNode (wave_of g).tree v → 2 ^ 48 ≤ far_at search v → HasRoom search
+    → IsNode (wave_of g).tree v → 2 ^ 54 ≤ far_at search v → HasRoom search
 room_left g search ground s v known past =
-    let missed = count_missed (has_come search) v (le-ltb (far_at search v) (2 ^ 48) past) g.nodes.now (ground.nodes.each v known) in
+    let missed = count_missed (has_come search) v (le-ltb (far_at search v) (2 ^ 54) past) g.nodes.now (ground.nodes.each v known) in
     let fit = s.fit in
     let room = s.room in
     omega arith

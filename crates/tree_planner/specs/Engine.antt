@@ -17,7 +17,7 @@ use Rattle.tree_planner.specs.View.{state_of, AreTables}
 -- and the worth of a start, of a wave within its limits
 pub record IsFixed (wave : Wave) (fixed : Fixed) : Type 0 where
   pub known : IsKnown wave
-  pub small : reward wave < 2 ^ 48
+  pub small : reward wave < 2 ^ 54
   pub few : length wave.splits ≤ MAX_SPLITS
   pub nodes : AreNodes wave.tree fixed.nodes.items
   pub children : AreChildren wave.tree fixed.children

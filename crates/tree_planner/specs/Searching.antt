@@ -36,7 +36,7 @@ state_at g = state_of g.tables.now
 -- what a search stands on: a state that is kept to, none of whose nodes lies deeper than the reward
 pub record IsGround (g : Ground) : Type 0 where
   pub known : IsKnown (wave_of g)
-  pub small : reward (wave_of g) < 2 ^ 48
+  pub small : reward (wave_of g) < 2 ^ 54
   pub few : length (wave_of g).splits ≤ MAX_SPLITS
   pub nodes : AreNodes (wave_of g).tree g.nodes.now
   pub children : AreChildren (wave_of g).tree g.children.now
@@ -48,9 +48,9 @@ pub record IsGround (g : Ground) : Type 0 where
   pub low : (v : TreeNode) → (state_at g).depth v ≤ reward (wave_of g)
   pub kept : IsKept (wave_of g) (state_at g)
 
--- how far a node is at most: as the search came to it, or 2 ^ 48, which is farther than any way goes
+-- how far a node is at most: as the search came to it, or 2 ^ 54, which is farther than any way goes
 abbrev pub far_at : Search → TreeNode → ℕ
-far_at search v = at_or search.far (2 ^ 48) v
+far_at search v = at_or search.far (2 ^ 54) v
 
 -- as which one it was looked from, from 1, or 0 if it was not yet
 abbrev pub order_at : Search → TreeNode → ℕ
@@ -62,7 +62,7 @@ reached_at search k = slice_index_or search.reached.nodes.items k Cluster
 
 -- what is known of the workers of a rack: nothing, where their distance with the reward is past twice the reward
 abbrev pub cover_at : Search → ℕ → Cover
-cover_at search r = at_or search.covers (record { offset = 2 ^ 49; split = search.split }) (Rack r)
+cover_at search r = at_or search.covers (record { offset = 2 ^ 55; split = search.split }) (Rack r)
 
 -- a worker that the groups of the split leave out
 abbrev pub IsOut : Ground → ℕ → ℕ → Type 0
@@ -74,7 +74,7 @@ AreOf g s Out group = (x : End) → IsOf (wave_of g).tree Out group x → IsEnd 
 
 -- whether it was come to
 abbrev pub has_come : Search → TreeNode → Bool
-has_come search v = nat_lt (far_at search v) (2 ^ 48)
+has_come search v = nat_lt (far_at search v) (2 ^ 54)
 
 -- the nodes that were come to stand first in their row, each once, and the search has looked from no other
 pub record HasReached (tree : Tree) (search : Search) : Type 0 where
@@ -82,7 +82,7 @@ pub record HasReached (tree : Tree) (search : Search) : Type 0 where
   pub known : (k : ℕ) → k < search.reached.count → IsNode tree (reached_at search k)
   pub near : (k : ℕ) → k < search.reached.count → far_at search (reached_at search k) < search.limit
   pub once : (j k : ℕ) → j < k → k < search.reached.count → reached_at search j ≢ reached_at search k
-  pub each : (v : TreeNode) → far_at search v < 2 ^ 48
+  pub each : (v : TreeNode) → far_at search v < 2 ^ 54
       → (k : ℕ) × (k < search.reached.count) × (reached_at search k ≡ v)
   pub looked : (v : TreeNode) → 0 < order_at search v → far_at search v < search.limit
 
@@ -101,7 +101,7 @@ pub record HasTables (tree : Tree) (search : Search) : Type 0 where
 pub record IsBlank (tree : Tree) (nodes : ℕ) (search : Search) : Type 0 where
   pub tables : HasTables tree search
   pub room : length search.reached.nodes.items ≡ nodes
-  pub far : (v : TreeNode) → 2 ^ 48 ≤ far_at search v
+  pub far : (v : TreeNode) → 2 ^ 54 ≤ far_at search v
   pub none : (v : TreeNode) → order_at search v ≡ 0
 
 -- how it was come to

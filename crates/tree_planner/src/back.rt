@@ -39,7 +39,7 @@ pub enum StepBack {
     /// It sinks from the node's parent: a unit less goes down.
     Sink,
     /// The split of this number, which stands on the node, goes over to this end, where the hole was.
-    Over(u16, End),
+    Over(u32, End),
 }
 
 /// How a hole is filled.
@@ -48,7 +48,7 @@ pub enum Rest {
     /// Units stay where they are: a slot of a worker under this node becomes free.
     Free(TreeNode),
     /// The split of this number waits, and takes the slot at this end.
-    Join(u16, End),
+    Join(u32, End),
 }
 
 /// What a search back stands on: a problem, what is read of it, and the tables of a state with a hole.
@@ -113,7 +113,7 @@ impl SearchBack {
     pub fn begin(&mut self, problem: &Problem, worth: u64, hole: TreeNode)
         requires tables { HasTables problem.now.tree self.old }
         requires worth { worth ≡ reward problem.now }
-        requires small { worth < 2 ^ 48 }
+        requires small { worth < 2 ^ 54 }
         ensures hole { self.new.hole ≡ hole }
         ensures unused { IsUnused problem.now self.new }
     {
@@ -218,7 +218,7 @@ fn above(hollow: &Hollow<'_>, node: TreeNode) -> TreeNode
 }
 
 // The ends of a split.
-fn ends_of<'h>(hollow: &'h Hollow<'_>, split: u16) -> Ends<'h>
+fn ends_of<'h>(hollow: &'h Hollow<'_>, split: u32) -> Ends<'h>
     requires hollow { IsHollow hollow.now }
     requires split { split < length (wave_of hollow.now).splits }
     ensures { result ≡ ends_at hollow.now.fixed.now.ends split }
@@ -227,7 +227,7 @@ fn ends_of<'h>(hollow: &'h Hollow<'_>, split: u16) -> Ends<'h>
 }
 
 // What it costs the split to end at an end.
-fn cost_at(hollow: &Hollow<'_>, split: u16, end: End) -> u64
+fn cost_at(hollow: &Hollow<'_>, split: u32, end: End) -> u64
     requires hollow { IsHollow hollow.now }
     requires is_end { IsEnd (wave_of hollow.now) split end }
     ensures cost { result ≡ reach_cost (wave_of hollow.now) (state_at hollow.now) split end }
@@ -238,7 +238,7 @@ fn cost_at(hollow: &Hollow<'_>, split: u16, end: End) -> u64
 }
 
 // Where a split is.
-fn place_of(hollow: &Hollow<'_>, split: u16) -> Place
+fn place_of(hollow: &Hollow<'_>, split: u32) -> Place
     requires hollow { IsHollow hollow.now }
     requires split { split < length (wave_of hollow.now).splits }
     ensures { result ≡ place_of (state_at hollow.now) split }
@@ -470,12 +470,12 @@ fn look_over(hollow: &Hollow<'_>, search: &mut SearchBack, node: TreeNode)
         if search.bound <= far {
             return;
         }
-        over_split(hollow, search, node, t as u16);
+        over_split(hollow, search, node, t as u32);
     }
 }
 
 // A split may go over to its ends at the node, or start there.
-fn over_split(hollow: &Hollow<'_>, search: &mut SearchBack, node: TreeNode, split: u16)
+fn over_split(hollow: &Hollow<'_>, search: &mut SearchBack, node: TreeNode, split: u32)
     requires hollow { IsHollow hollow.now }
     requires split { split < length (wave_of hollow.now).splits }
     requires known { IsNode (wave_of hollow.now).tree node }
@@ -497,7 +497,7 @@ fn over_group(
     hollow: &Hollow<'_>,
     search: &mut SearchBack,
     node: TreeNode,
-    split: u16,
+    split: u32,
     ends: &Ends<'_>,
     group: Group,
 )
@@ -524,7 +524,7 @@ fn over_group(
     }
 }
 
-fn over_at(hollow: &Hollow<'_>, search: &mut SearchBack, node: TreeNode, split: u16, end: End)
+fn over_at(hollow: &Hollow<'_>, search: &mut SearchBack, node: TreeNode, split: u32, end: End)
     requires hollow { IsHollow hollow.now }
     requires split { split < length (wave_of hollow.now).splits }
     requires is_end { IsEnd (wave_of hollow.now) split end }
@@ -541,7 +541,7 @@ fn over_at(hollow: &Hollow<'_>, search: &mut SearchBack, node: TreeNode, split: 
 }
 
 // Takes the step of a split to its end at a node back.
-fn step_over(hollow: &Hollow<'_>, search: &mut SearchBack, split: u16, end: End)
+fn step_over(hollow: &Hollow<'_>, search: &mut SearchBack, split: u32, end: End)
     requires hollow { IsHollow hollow.now }
     requires split { split < length (wave_of hollow.now).splits }
     requires is_end { IsEnd (wave_of hollow.now) split end }

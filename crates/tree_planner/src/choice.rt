@@ -33,7 +33,7 @@ pub struct Cheapest {
 }
 
 /// What is cheapest for a split: to wait, to stand where a slot is free, or what a search finds.
-pub fn choose(ground: &Ground<'_>, split: u16) -> Choice
+pub fn choose(ground: &Ground<'_>, split: u32) -> Choice
     requires ground { IsGround ground.now }
     requires split { split < length (wave_of ground.now).splits }
     ensures { IsChoice (wave_of ground.now) (state_at ground.now) split result }
@@ -48,7 +48,7 @@ pub fn choose(ground: &Ground<'_>, split: u16) -> Choice
     }
 }
 
-fn cheapest_end(ground: &Ground<'_>, split: u16) -> Cheapest
+fn cheapest_end(ground: &Ground<'_>, split: u32) -> Cheapest
     requires ground { IsGround ground.now }
     requires split { split < length (wave_of ground.now).splits }
     ensures cheapest { IsCheapest ground.now split result }
@@ -69,7 +69,7 @@ fn cheapest_end(ground: &Ground<'_>, split: u16) -> Cheapest
 // The cheapest of the best end so far and of the ends of a group.
 fn best_of(
     ground: &Ground<'_>,
-    split: u16,
+    split: u32,
     best: Cheapest,
     ends: &Ends<'_>,
     group: Group,
@@ -92,7 +92,7 @@ fn best_of(
 // The same of workers of a rack. None of them costs less than one that lies at 0.
 fn best_worker(
     ground: &Ground<'_>,
-    split: u16,
+    split: u32,
     best: Cheapest,
     ends: &Ends<'_>,
     rack: u16,
@@ -121,7 +121,7 @@ fn best_worker(
 // The same of one node of a rack.
 fn better_node(
     ground: &Ground<'_>,
-    split: u16,
+    split: u32,
     best: Cheapest,
     ends: &Ends<'_>,
     rack: u16,
@@ -143,7 +143,7 @@ fn better_node(
 }
 
 // The cheaper of the best end so far and another; of two that cost the same one with a free slot under it.
-fn better(ground: &Ground<'_>, split: u16, best: Cheapest, end: End) -> Cheapest
+fn better(ground: &Ground<'_>, split: u32, best: Cheapest, end: End) -> Cheapest
     requires ground { IsGround ground.now }
     requires is_end { IsEnd (wave_of ground.now) split end }
     requires cheapest { IsCheapest ground.now split best }

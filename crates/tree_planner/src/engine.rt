@@ -74,7 +74,7 @@ pub fn fixed_parts(alloc: Global, problem: &Problem) -> Result<Fixed, AllocError
 }
 
 /// Ships a split, or lets it wait, whichever is cheaper. The search is lent, blank.
-pub fn ship(problem: &Problem, fixed: &Fixed, tables: &mut Tables, search: &mut Search, split: u16)
+pub fn ship(problem: &Problem, fixed: &Fixed, tables: &mut Tables, search: &mut Search, split: u32)
     requires fixed { IsFixed problem.now fixed.now }
     requires standing { IsStanding problem.now tables.old }
     requires blank { IsBlank problem.now.tree (length fixed.now.nodes.items) search.old }
@@ -93,7 +93,7 @@ pub fn ship(problem: &Problem, fixed: &Fixed, tables: &mut Tables, search: &mut 
 }
 
 // What is cheapest for a split, as far as its ends show it.
-fn choice(problem: &Problem, fixed: &Fixed, tables: &Tables, split: u16) -> Choice
+fn choice(problem: &Problem, fixed: &Fixed, tables: &Tables, split: u32) -> Choice
     requires fixed { IsFixed problem.now fixed.now }
     requires standing { IsStanding problem.now tables.now }
     requires split { split < length problem.now.splits }
@@ -123,7 +123,7 @@ fn ground_of<'a>(problem: &'a Problem, fixed: &'a Fixed, tables: &'a Tables) -> 
 }
 
 // Lets a split stand at an end under which a slot is free.
-fn stand(problem: &Problem, fixed: &Fixed, tables: &mut Tables, split: u16, end: End)
+fn stand(problem: &Problem, fixed: &Fixed, tables: &mut Tables, split: u32, end: End)
     requires fixed { IsFixed problem.now fixed.now }
     requires standing { IsStanding problem.now tables.old }
     requires unshipped { place_of (state_of tables.old) split ≡ Unshipped }
@@ -144,7 +144,7 @@ fn search_and_follow(
     fixed: &Fixed,
     tables: &mut Tables,
     search: &mut Search,
-    split: u16,
+    split: u32,
     least: u64,
 )
     requires fixed { IsFixed problem.now fixed.now }
@@ -170,7 +170,7 @@ fn find(
     fixed: &Fixed,
     tables: &Tables,
     search: &mut Search,
-    split: u16,
+    split: u32,
     least: u64,
 )
     requires fixed { IsFixed problem.now fixed.now }
@@ -197,7 +197,7 @@ pub fn ship_once(
     fixed: &Fixed,
     tables: &mut Tables,
     search: &mut Search,
-    split: u16,
+    split: u32,
 )
     requires fixed { IsFixed problem.now fixed.now }
     requires standing { IsStanding problem.now tables.old }
@@ -281,7 +281,7 @@ fn ship_each(
 {
     let mut search = Search::new(alloc, problem.tree(), fixed.nodes.len())?;
     for s in 0..problem.splits() {
-        ship_once(problem, fixed, tables, &mut search, s as u16);
+        ship_once(problem, fixed, tables, &mut search, s as u32);
     }
     Ok(())
 }

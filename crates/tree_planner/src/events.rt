@@ -31,7 +31,7 @@ use tree_flow::{End, Place, TreeNode};
 use wave_problem::{Problem, WorkerLine};
 
 /// Where a split is.
-pub fn place_at(tables: &Tables, split: u16) -> Place
+pub fn place_at(tables: &Tables, split: u32) -> Place
     requires { split < length tables.now.places.items }
     ensures { result ≡ place_of (state_of tables.now) split }
 {
@@ -121,14 +121,14 @@ pub fn start(
     ensures standing { IsStanding problem.new tables.new }
     ensures unshipped { AreAllSame (state_of tables.old) (state_of tables.new) }
 {
-    let worker = take_away(problem, fixed, tables, split.index() as u16);
+    let worker = take_away(problem, fixed, tables, split.index() as u32);
     set_aside(alloc, problem, fixed, tables, split);
-    let_wait(problem, tables, split.index() as u16);
+    let_wait(problem, tables, split.index() as u32);
     worker
 }
 
 // Takes a split that stands off, and away a slot of the worker to which its unit went.
-fn take_away(problem: &mut Problem, fixed: &mut Fixed, tables: &mut Tables, split: u16) -> WorkerNo
+fn take_away(problem: &mut Problem, fixed: &mut Fixed, tables: &mut Tables, split: u32) -> WorkerNo
     requires fixed { IsFixed problem.old fixed.old }
     requires standing { IsStanding problem.old tables.old }
     requires split { split < length problem.old.splits }
@@ -149,7 +149,7 @@ fn take_away(problem: &mut Problem, fixed: &mut Fixed, tables: &mut Tables, spli
 }
 
 /// Takes a split off the end at which it stands: a hole is left there.
-pub fn take_off(problem: &Problem, tables: &mut Tables, split: u16, end: End)
+pub fn take_off(problem: &Problem, tables: &mut Tables, split: u32, end: End)
     requires standing { IsStanding problem.now tables.old }
     requires stands { place_of (state_of tables.old) split ≡ Stands end }
     ensures standing { IsStandingBut problem.now tables.new (Some end.node) }
@@ -198,7 +198,7 @@ fn set_aside(
 }
 
 // Lets a split wait that has no ends.
-fn let_wait(problem: &Problem, tables: &mut Tables, split: u16)
+fn let_wait(problem: &Problem, tables: &mut Tables, split: u32)
     requires standing { IsStanding problem.now tables.old }
     requires split { split < length problem.now.splits }
     requires unshipped { place_of (state_of tables.old) split ≡ Unshipped }
@@ -225,9 +225,9 @@ pub fn pass_over(
     ensures fixed { IsFixed problem.new fixed.new }
     ensures standing { IsStanding problem.new tables.new }
 {
-    lay_off(tables, split.index() as u16);
+    lay_off(tables, split.index() as u32);
     set_aside(alloc, problem, fixed, tables, split);
-    let_wait(problem, tables, split.index() as u16);
+    let_wait(problem, tables, split.index() as u32);
 }
 
 /// A split that has started, or was never pending, is pending again: it is not shipped yet. Without memory
@@ -254,7 +254,7 @@ pub fn pend(
 {
     let ends = pending_ends(alloc, problem, fixed, split)?;
     fixed.ends.put(split.index(), ends);
-    lay_off(tables, split.index() as u16);
+    lay_off(tables, split.index() as u32);
     Ok(())
 }
 
@@ -283,7 +283,7 @@ fn pending_ends(
 }
 
 /// Takes a split off that does not stand.
-pub fn lay_off(tables: &mut Tables, split: u16)
+pub fn lay_off(tables: &mut Tables, split: u32)
     requires split { split < length tables.old.places.items }
     requires idle { (e : End) → place_of (state_of tables.old) split ≢ Stands e }
     ensures standing { (wave : Wave) → IsStanding wave tables.old → IsStanding wave tables.new }
@@ -292,7 +292,7 @@ pub fn lay_off(tables: &mut Tables, split: u16)
     unmark(tables, split);
 }
 
-fn unmark(tables: &mut Tables, split: u16)
+fn unmark(tables: &mut Tables, split: u32)
     requires { split < length tables.old.places.items }
     ensures placed { IsPlaced (state_of tables.old) (state_of tables.new) split Unshipped }
     ensures rest { tables.new ≡ record tables.old { places = tables.new.places } }

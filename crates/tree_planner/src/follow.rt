@@ -25,7 +25,7 @@ use wave_problem::Problem;
 /// than the reward.
 pub fn deepen(problem: &Problem, reward: u64, depth: &mut NodeTable<u64>, search: &Search)
     requires over { IsOver problem.now.tree depth.old }
-    requires small { reward < 2 ^ 48 }
+    requires small { reward < 2 ^ 54 }
     requires low { (v : TreeNode) → at_node depth.old v ≤ reward }
     requires bound { search.now.bound ≤ search.now.limit }
     requires limit { search.now.limit ≤ reward }
@@ -45,7 +45,7 @@ pub fn deepen(problem: &Problem, reward: u64, depth: &mut NodeTable<u64>, search
 
 // How deep a node at this depth lies then, if it is so far and the end of the way is at the bound.
 fn deepened(reward: u64, depth: u64, bound: u64, far: u64) -> u64
-    requires small { reward < 2 ^ 48 }
+    requires small { reward < 2 ^ 54 }
     requires low { depth ≤ reward }
     requires near { bound ≤ reward }
     ensures { result ≡ min reward (depth + (bound - far)) }
@@ -157,7 +157,7 @@ fn step_back(
 }
 
 /// Where a split stands.
-pub fn stood_at(tables: &Tables, split: u16) -> End
+pub fn stood_at(tables: &Tables, split: u32) -> End
     requires split { split < length tables.now.places.items }
     requires stands { (e : End) × (place_of (state_of tables.now) split ≡ Stands e) }
     ensures { place_of (state_of tables.now) split ≡ Stands result }
@@ -169,7 +169,7 @@ pub fn stood_at(tables: &Tables, split: u16) -> End
 }
 
 /// Gives a split another place.
-pub fn place(problem: &Problem, tables: &mut Tables, split: u16, place: Place)
+pub fn place(problem: &Problem, tables: &mut Tables, split: u32, place: Place)
     requires tables { AreTables problem.now tables.old }
     requires split { split < length problem.now.splits }
     requires known { (e : End) → place ≡ Stands e → IsNode problem.now.tree e.node }
@@ -184,7 +184,7 @@ pub fn place(problem: &Problem, tables: &mut Tables, split: u16, place: Place)
 }
 
 // Puts a split that stands on a node on its list; where no cell is left, all lists are made anew.
-fn list(problem: &Problem, tables: &mut Tables, split: u16, node: TreeNode)
+fn list(problem: &Problem, tables: &mut Tables, split: u32, node: TreeNode)
     requires places { length tables.old.places.items ≡ length problem.now.splits }
     requires lists { AreLists problem.now.tree (length problem.now.splits) tables.old.standing }
     requires known { AreOnNodes problem.now tables.old }
@@ -217,12 +217,12 @@ fn list_all(problem: &Problem, tables: &mut Tables)
 {
     tables.standing.clear(problem.tree(), problem.splits());
     for s in 0..problem.splits() {
-        list_again(problem, tables, s as u16);
+        list_again(problem, tables, s as u32);
     }
 }
 
 // Puts a split on the list of the node on which it stands, if it stands.
-fn list_again(problem: &Problem, tables: &mut Tables, split: u16)
+fn list_again(problem: &Problem, tables: &mut Tables, split: u32)
     requires places { length tables.old.places.items ≡ length problem.now.splits }
     requires lists { AreLists problem.now.tree (length problem.now.splits) tables.old.standing }
     requires known { AreOnNodes problem.now tables.old }

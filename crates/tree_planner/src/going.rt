@@ -37,7 +37,7 @@ impl Engine {
     // Starts the splits that are not pending any more, where they stand: that takes the slots away, too.
     fn start_gone(&mut self, alloc: Global, next: &Problem) {
         for s in 0..next.splits() {
-            let split = SplitNo::new(s as u16);
+            let split = SplitNo::new(s as u32);
             if !next.is_pending(split) && s < self.problem().splits() {
                 self.start(alloc, split);
             }

@@ -32,7 +32,7 @@ pub struct Starts {
 impl Starts {
     // Adds the start of the next split.
     fn add(&mut self, start: Option<WorkerNo>) -> Result<(), AllocError>
-        requires few { length self.old.each.items < 2 ^ 16 }
+        requires few { length self.old.each.items < 2 ^ 32 }
         requires room { length self.old.each.items < vec_capacity self.old.each }
         requires pairs { self.old.pairs.items ≡ pairs_of self.old.each.items }
         ensures each { OnOk result (self.new.each.items ≡ self.old.each.items ++ start ∷ []) }
@@ -43,7 +43,7 @@ impl Starts {
             self.each.push_reserved(None);
             return Ok(());
         };
-        let split = SplitNo::new(self.each.len() as u16);
+        let split = SplitNo::new(self.each.len() as u32);
         self.pairs.push((split, worker))?;
         self.each.push_reserved(Some(worker));
         Ok(())

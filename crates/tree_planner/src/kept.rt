@@ -104,7 +104,7 @@ impl Engine {
     {
         let nodes = self.fixed.nodes.len();
         let mut search = Search::new(alloc, self.problem.tree(), nodes)?;
-        let split = split.index() as u16;
+        let split = split.index() as u32;
         self.settled = false;
         ship(
             &self.problem,
@@ -186,7 +186,7 @@ impl Engine {
         ensures none { result ≡ None → (self.new ≡ self.old)
             × ((e : End) → place_of (state_in self.old) split ≢ Stands e) }
     {
-        match place_at(&self.tables, split.index() as u16) {
+        match place_at(&self.tables, split.index() as u32) {
             Place::Stands(_) => {
                 let worker = start(
                     alloc,

@@ -87,7 +87,7 @@ fn has_same_bytes(one: &Problem, other: &Problem) -> bool
         return false;
     }
     for s in 0..one.splits() {
-        let split = SplitNo::new(s as u16);
+        let split = SplitNo::new(s as u32);
         if one.bytes(split) != other.bytes(split) {
             return false;
         }

@@ -13,7 +13,7 @@ use tree_flow::{NodeTable, TreeNode};
 #[derive(Clone, Copy)]
 pub struct Cell {
     pub node: TreeNode,
-    pub split: u16,
+    pub split: u32,
     pub before: usize,
 }
 
@@ -30,7 +30,7 @@ pub struct Standing {
 impl Standing {
     /// Lists without splits, with room for two cells a split.
     pub fn new(alloc: Global, tree: &RackTree, splits: usize) -> Result<Standing, AllocError>
-        requires { splits ≤ 2 ^ 16 }
+        requires { splits ≤ 2 ^ 32 }
         ensures lists { IfOk result (λ standing. AreLists tree.now splits standing) }
         ensures none { IfOk result (λ standing. standing.used ≡ 0) }
     {
@@ -65,7 +65,7 @@ impl Standing {
     }
 
     /// Puts a split on the list of a node.
-    pub fn add(&mut self, tree: &RackTree, splits: usize, node: TreeNode, split: u16)
+    pub fn add(&mut self, tree: &RackTree, splits: usize, node: TreeNode, split: u32)
         requires lists { AreLists tree.now splits self.old }
         requires known { IsNode tree.now node }
         requires split { split < splits }

@@ -129,7 +129,7 @@ fn start_on(
     tables: &Tables,
     worker: WorkerNo,
     starts: &[Option<WorkerNo>],
-) -> u16
+) -> u32
     requires standing { IsStanding problem.now tables.now }
     requires worker { worker < length problem.now.workers }
     requires usable { IsUsable problem.now.workers worker }
@@ -141,7 +141,7 @@ fn start_on(
     let _splits = problem.splits();
     for s in 0..starts.len() {
         if is_start(starts[s], worker) {
-            return s as u16;
+            return s as u32;
         }
     }
     unreachable!()

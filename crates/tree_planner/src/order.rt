@@ -10,7 +10,7 @@ pub fn shipping_order(
     alloc: Global,
     problem: &Problem,
     slots: u64,
-) -> Result<Vec<u16>, AllocError> {
+) -> Result<Vec<u32>, AllocError> {
     let sizes = sorted_sizes(alloc, problem)?;
     let few = sizes.len().min(slots as usize);
     let mut order = Vec::with_capacity(alloc, sizes.len())?;
@@ -24,15 +24,15 @@ pub fn shipping_order(
 }
 
 // The splits with their sizes, the smallest first.
-fn sorted_sizes(alloc: Global, problem: &Problem) -> Result<Vec<(u64, u16)>, AllocError> {
+fn sorted_sizes(alloc: Global, problem: &Problem) -> Result<Vec<(u64, u32)>, AllocError> {
     let mut sizes = Vec::with_capacity(alloc, problem.splits())?;
     let mut last = 0;
     let mut rises = true;
     for s in 0..problem.splits() {
-        let size = problem.bytes(SplitNo::new(s as u16));
+        let size = problem.bytes(SplitNo::new(s as u32));
         rises = rises && last <= size;
         last = size;
-        sizes.push((size, s as u16))?;
+        sizes.push((size, s as u32))?;
     }
     if !rises {
         sizes.sort()?;

@@ -18,7 +18,7 @@ use tree_flow::{End, TreeNode};
 /// A split that may leave the end at which it stands: how far the end is, and what the split costs there.
 #[derive(Clone, Copy)]
 pub struct Leaving {
-    pub split: u16,
+    pub split: u32,
     pub end: End,
     pub far: u64,
     pub spent: u64,
@@ -26,7 +26,7 @@ pub struct Leaving {
 
 /// Takes the steps of a split that stands at an end, unless an end of a way is known that is no farther than
 /// this one.
-pub fn hand_over(ground: &Ground<'_>, search: &mut Search, split: u16, end: End)
+pub fn hand_over(ground: &Ground<'_>, search: &mut Search, split: u32, end: End)
     requires ground { IsGround ground.now }
     requires split { split < length (wave_of ground.now).splits }
     requires searching { IsSearching ground.now search.old }
@@ -155,7 +155,7 @@ fn over_rest(
     ends: &Ends<'_>,
     rack: u16,
     level: u8,
-    other: u16,
+    other: u32,
 )
     requires ground { IsGround ground.now }
     requires searching { IsSearching ground.now search.old }

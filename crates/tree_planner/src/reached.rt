@@ -6,7 +6,7 @@ use std::alloc::{AllocError, Global};
 use tree_flow::TreeNode;
 
 /// As far as no way goes.
-pub const FAR: u64 = 281_474_976_710_656;
+pub const FAR: u64 = 18_014_398_509_481_984;
 
 /// Nodes in a row, of which so many are the first.
 #[derive(Drop)]
@@ -36,12 +36,12 @@ impl Reached {
 
     /// Adds a node that was farther than any way goes; one that was nearer stands there already.
     pub fn note(&mut self, node: TreeNode, far: u64)
-        requires room { 2 ^ 48 ≤ far → self.old.count < length self.old.nodes.items }
+        requires room { 2 ^ 54 ≤ far → self.old.count < length self.old.nodes.items }
         ensures room { length self.new.nodes.items ≡ length self.old.nodes.items }
-        ensures count { 2 ^ 48 ≤ far → self.new.count ≡ self.old.count + 1 }
-        ensures node { 2 ^ 48 ≤ far
+        ensures count { 2 ^ 54 ≤ far → self.new.count ≡ self.old.count + 1 }
+        ensures node { 2 ^ 54 ≤ far
             → self.new.nodes.items ≡ slice_set self.old.nodes.items self.old.count node }
-        ensures same { far < 2 ^ 48 → self.new ≡ self.old }
+        ensures same { far < 2 ^ 54 → self.new ≡ self.old }
     {
         if far >= FAR {
             self.nodes[self.count] = node;

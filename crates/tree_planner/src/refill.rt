@@ -299,7 +299,7 @@ fn put_units(problem: &Problem, tables: &mut Tables, node: TreeNode, units: u64)
 }
 
 // Lets a split stand at an end.
-fn put_split(problem: &Problem, tables: &mut Tables, split: u16, end: End)
+fn put_split(problem: &Problem, tables: &mut Tables, split: u32, end: End)
     requires tables { AreTables problem.now tables.old }
     requires split { split < length tables.old.places.items }
     requires known { IsNode problem.now.tree end.node }

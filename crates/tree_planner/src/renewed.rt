@@ -51,7 +51,7 @@ fn all_pending(alloc: Global, problem: &Problem) -> Result<Vec<bool>, AllocError
 {
     let mut pending = Vec::with_capacity(alloc, problem.splits())?;
     for s in 0..problem.splits() {
-        pending.push(problem.is_pending(SplitNo::new(s as u16)))?;
+        pending.push(problem.is_pending(SplitNo::new(s as u32)))?;
     }
     Ok(pending)
 }
@@ -82,7 +82,7 @@ fn put_pending(problem: &mut Problem, pending: &[bool])
     ensures { problem.new ≡ record problem.old { splits = flagged problem.old.splits pending.now } }
 {
     for s in 0..problem.splits() {
-        problem.set_pending(SplitNo::new(s as u16), pending[s]);
+        problem.set_pending(SplitNo::new(s as u32), pending[s]);
     }
 }
 

@@ -44,7 +44,7 @@ pub enum Step {
     /// A unit less goes down from the node to this one, which hangs from it.
     Up(TreeNode),
     /// The split of this number goes over to its end there, of this level.
-    Over(u16, u8),
+    Over(u32, u8),
 }
 
 /// What a way ends in.
@@ -55,7 +55,7 @@ pub enum Goal {
     /// A free slot under this node.
     Slot(TreeNode),
     /// The split of this number is sent off, and waits.
-    Off(u16),
+    Off(u32),
 }
 
 /// The place of the nearest node so far among the reached nodes, and how far it is; or how many these
@@ -84,7 +84,7 @@ pub struct Ground<'a> {
 #[derive(Clone, Copy)]
 pub struct Cover {
     pub offset: u64,
-    pub split: u16,
+    pub split: u32,
 }
 
 /// Which split is shipped, what its cheapest end costs at least, and how far a way may go; how far each node
@@ -93,7 +93,7 @@ pub struct Cover {
 /// them no node has been come to.
 #[derive(Drop)]
 pub struct Search {
-    pub split: u16,
+    pub split: u32,
     pub least: u64,
     pub limit: u64,
     pub far: NodeTable<u64>,
@@ -142,7 +142,7 @@ impl Search {
     pub fn clear(&mut self, tree: &RackTree)
         requires tables { HasTables tree.now self.old }
         requires reached { HasReached tree.now self.old }
-        requires short { self.old.limit < 2 ^ 48 }
+        requires short { self.old.limit < 2 ^ 54 }
         ensures { IsBlank tree.now (length self.old.reached.nodes.items) self.new }
     {
         let _ = tree;
@@ -173,7 +173,7 @@ impl Search {
     pub fn reach(&mut self, node: TreeNode, distance: u64, step: Step, free: bool)
         requires far { HasNode self.old.far node }
         requires how { HasNode self.old.how node }
-        requires room { 2 ^ 48 ≤ far_at self.old node → HasRoom self.old }
+        requires room { 2 ^ 54 ≤ far_at self.old node → HasRoom self.old }
         requires beyond { (u : TreeNode) → 0 < order_at self.old u → far_at self.old u ≤ distance }
         ensures improves { Improves self.old self.new }
         ensures near { min self.new.bound (far_at self.new node) ≤ distance }
@@ -207,7 +207,7 @@ impl Search {
     }
 
     /// Notes how near the workers of a rack are that the groups of a split do not leave out.
-    pub fn cover(&mut self, rack: u16, offset: u64, split: u16)
+    pub fn cover(&mut self, rack: u16, offset: u64, split: u32)
         requires { HasNode self.old.covers (Rack rack) }
         ensures improves { Improves self.old self.new }
         ensures kept { (g : Ground) → IsSearching g self.old
@@ -279,7 +279,7 @@ fn above(ground: &Ground<'_>, node: TreeNode) -> TreeNode
 }
 
 /// The ends of a split.
-pub fn ends_of<'g>(ground: &'g Ground<'_>, split: u16) -> Ends<'g>
+pub fn ends_of<'g>(ground: &'g Ground<'_>, split: u32) -> Ends<'g>
     requires ground { IsGround ground.now }
     requires split { split < length (wave_of ground.now).splits }
     ensures { result ≡ ends_at ground.now.ends.now split }
@@ -302,7 +302,7 @@ pub fn workers_in<'g>(ground: &'g Ground<'_>, rack: u16) -> &'g [TreeNode]
 }
 
 /// What it costs the split to end at this level, at a node that lies at 0.
-pub fn end_cost(ground: &Ground<'_>, split: u16, level: u8) -> u64
+pub fn end_cost(ground: &Ground<'_>, split: u32, level: u8) -> u64
     requires split { split < length (wave_of ground.now).splits }
     ensures { result ≡ (split_at (wave_of ground.now) split).bytes * (2 * level) }
 {
@@ -310,7 +310,7 @@ pub fn end_cost(ground: &Ground<'_>, split: u16, level: u8) -> u64
 }
 
 /// What it costs the split to end at an end.
-pub fn cost_at(ground: &Ground<'_>, split: u16, end: End) -> u64
+pub fn cost_at(ground: &Ground<'_>, split: u32, end: End) -> u64
     requires ground { IsGround ground.now }
     requires is_end { IsEnd (wave_of ground.now) split end }
     ensures cost { result ≡ reach_cost (wave_of ground.now) (state_at ground.now) split end }
@@ -322,7 +322,7 @@ pub fn cost_at(ground: &Ground<'_>, split: u16, end: End) -> u64
 
 /// Searches from the ends of a split, over steps that a unit may take, as far as the nearest end of a way
 /// (Dijkstra's search over reduced costs).
-pub fn find_way(ground: &Ground<'_>, search: &mut Search, split: u16, least: u64)
+pub fn find_way(ground: &Ground<'_>, search: &mut Search, split: u32, least: u64)
     requires ground { IsGround ground.now }
     requires blank { IsBlank (wave_of ground.now).tree (length ground.now.nodes.now) search.old }
     requires split { split < length (wave_of ground.now).splits }
@@ -337,7 +337,7 @@ pub fn find_way(ground: &Ground<'_>, search: &mut Search, split: u16, least: u64
 }
 
 // No node was come to yet, and the split may wait.
-fn begin(ground: &Ground<'_>, search: &mut Search, split: u16, least: u64)
+fn begin(ground: &Ground<'_>, search: &mut Search, split: u32, least: u64)
     requires ground { IsGround ground.now }
     requires blank { IsBlank (wave_of ground.now).tree (length ground.now.nodes.now) search.old }
     requires split { split < length (wave_of ground.now).splits }
@@ -656,7 +656,7 @@ fn look_over(ground: &Ground<'_>, search: &mut Search, node: TreeNode)
 }
 
 // A split that stands on the node may go over to other ends.
-fn over_split(ground: &Ground<'_>, search: &mut Search, node: TreeNode, split: u16)
+fn over_split(ground: &Ground<'_>, search: &mut Search, node: TreeNode, split: u32)
     requires ground { IsGround ground.now }
     requires split { split < length (wave_of ground.now).splits }
     requires searching { IsSearching ground.now search.old }

@@ -278,7 +278,7 @@ pub fn all_ends(
     let mut all = AllEnds::with_room(alloc, problem.splits())?;
     let mut groups = Vec::new(alloc);
     for s in 0..problem.splits() {
-        let split = SplitNo::new(s as u16);
+        let split = SplitNo::new(s as u32);
         add_ends(alloc, &mut all, &mut groups, problem, children, split)?;
     }
     Ok(all)

@@ -56,7 +56,7 @@ fn other_ends(
 {
     let mut others = Vec::with_capacity(alloc, next.splits())?;
     for s in 0..next.splits() {
-        let ends = other_ends_of(alloc, problem, fixed, next, SplitNo::new(s as u16))?;
+        let ends = other_ends_of(alloc, problem, fixed, next, SplitNo::new(s as u32))?;
         others.push(ends)?;
     }
     Ok(others)
@@ -97,7 +97,7 @@ fn withdraw_changed(
         → IsOffIfChanged (state_of tables.new) others.now s) }
 {
     for s in 0..problem.splits() {
-        withdraw_if_changed(alloc, problem, fixed, tables, others, s as u16)?;
+        withdraw_if_changed(alloc, problem, fixed, tables, others, s as u32)?;
     }
     Ok(())
 }
@@ -108,7 +108,7 @@ fn withdraw_if_changed(
     fixed: &Fixed,
     tables: &mut Tables,
     others: &[Option<OwnEnds>],
-    split: u16,
+    split: u32,
 ) -> Result<(), AllocError>
     requires fixed { IsFixed problem.now fixed.now }
     requires size { length others.now ≡ length problem.now.splits }
@@ -144,7 +144,7 @@ pub fn withdraw(
     problem: &Problem,
     fixed: &Fixed,
     tables: &mut Tables,
-    split: u16,
+    split: u32,
 ) -> Result<(), AllocError>
     requires fixed { IsFixed problem.now fixed.now }
     requires standing { IsStanding problem.now tables.old }
@@ -169,7 +169,7 @@ fn withdraw_from(
     problem: &Problem,
     fixed: &Fixed,
     tables: &mut Tables,
-    split: u16,
+    split: u32,
     end: End,
 ) -> Result<(), AllocError>
     requires fixed { IsFixed problem.now fixed.now }

@@ -1,5 +1,5 @@
 -- The set of barred pairs, one pair after another.
-use Rattle.std.proofs.Common.{ℕ, List, [], ◌∷◌, ◌≡◌, ◌<◌, ◌∙◌, arith, inl, inr, length}
+use Rattle.std.proofs.Common.{ℕ, List, [], ◌∷◌, ◌≡◌, ◌*◌, ◌<◌, ◌∙◌, arith, inl, inr, length}
 use Rattle.std.specs.Prelude.{All, fold, ◌↔◌, ◌⊎◌}
 use Rattle.std.proofs.lemmas.List.{length-replicate, length-set}
 use Rattle.std.proofs.lemmas.List.Elements.{All-head, All-tail}
@@ -14,19 +14,19 @@ abbrev with_all : List ℕ → List PairRow → List ℕ
 with_all set pairs = fold (λ set pair. with_pair set pair.split pair.worker) set pairs
 
 -- one pair more
-has_one_more : (set : List ℕ) (pair : PairRow) (s w : ℕ) → length set ≡ 4096 → IsPairKnown 1024 256 pair →
-    w < 256 → HasPair (with_pair set pair.split pair.worker) s w
+has_one_more : (splits : ℕ) (set : List ℕ) (pair : PairRow) (s w : ℕ) → length set ≡ 4 * splits
+    → IsPairKnown splits 256 pair → w < 256 → HasPair (with_pair set pair.split pair.worker) s w
     ↔ (((s ≡ pair.split) × (w ≡ pair.worker)) ⊎ HasPair set s w)
-has_one_more set pair s w size known lt = grind (arith, has-set)
+has_one_more splits set pair s w size known lt = grind (arith, has-set)
 
-has_all : (set : List ℕ) (pairs : List PairRow) (s w : ℕ) → length set ≡ 4096 →
-    All (IsPairKnown 1024 256) pairs → w < 256 → HasPair (with_all set pairs) s w
+has_all : (splits : ℕ) (set : List ℕ) (pairs : List PairRow) (s w : ℕ) → length set ≡ 4 * splits
+    → All (IsPairKnown splits 256) pairs → w < 256 → HasPair (with_all set pairs) s w
     ↔ (IsListed pairs s w ⊎ HasPair set s w)
-has_all set [] s w size known lt = grind arith
-has_all set (pair ∷ rest) s w size known lt =
-    let one = has_one_more set pair s w size (All-head (IsPairKnown 1024 256) pair rest known) lt in
-    let all = has_all (with_pair set pair.split pair.worker) rest s w (length-set _ _ _ ∙ size)
-    (All-tail (IsPairKnown 1024 256) pair rest known) lt in (
+has_all splits set [] s w size known lt = grind arith
+has_all splits set (pair ∷ rest) s w size known lt =
+    let one = has_one_more splits set pair s w size (All-head (IsPairKnown splits 256) pair rest known) lt in
+    let all = has_all splits (with_pair set pair.split pair.worker) rest s w (length-set _ _ _ ∙ size)
+    (All-tail (IsPairKnown splits 256) pair rest known) lt in (
       λ new. elim (all.0 new) [
         | inl later ↦ inl (Contains-append_right (pair ∷ []) rest _ later)
         | inr had ↦ grind arith
@@ -38,11 +38,12 @@ has_all set (pair ∷ rest) s w size known lt =
     )
 
 pub barred_are_listed : TheBarredAreThoseListed
-barred_are_listed pairs known s w lt =
-    let all = has_all no_pairs pairs s w (length-replicate {A = ℕ} 4096 0) known lt in (
+barred_are_listed splits pairs known s w lt =
+    let size = length-replicate {A = ℕ} (4 * splits) 0 in
+    let all = has_all splits (no_pairs splits) pairs s w size known lt in (
       λ barred. elim (all.0 barred) [
         | inl listed ↦ listed
-        | inr none ↦ absurd (has-replicate 4096 (place_of_pair s w) none)
+        | inr none ↦ absurd (has-replicate (4 * splits) (place_of_pair s w) none)
       ],
       λ listed. all.1 (inl listed),
     )

@@ -23,7 +23,7 @@ within_limits rows fit =
       few_splits = omega (arith, length-map rows.splits.now lines, fit.splits.few);
       few_workers = omega (arith, workers, fit.workers.few);
       one_line_each = workers ∙ sym (length-map rows.workers.now (λ row. row.rack));
-      slots = All-map (λ (line : WorkerLine). line.free ≤ 16) worker_of rows.workers.now fit.workers.slots;
+      slots = All-map (λ (line : WorkerLine). line.free ≤ 255) worker_of rows.workers.now fit.workers.slots;
       bytes = All-map (λ (split : Split). split.bytes ≤ 8589934592) lines rows.splits.now
           (λ i d lt. (fit.splits.each i d lt).bytes);
       holders = All-map (λ (split : Split). length split.holders ≤ 8) lines rows.splits.now

@@ -4,9 +4,10 @@ use Rattle.std.specs.Prelude.{All, Contains, slice_range, ◌↔◌}
 use Rattle.node_ids.specs.Sets.{HasPair, no_pairs, with_pair}
 use Rattle.rack_tree.specs.Tree.{Tree}
 use Rattle.rack_tree.specs.declared.TheConstants.{MAX_CENTRES, MAX_RACKS, MAX_WORKERS}
-use Rattle.wave_problem.specs.declared.TheConstants.{MAX_SPLITS, MAX_HOLDERS, MAX_SLOTS, MAX_BYTES}
+use Rattle.wave_problem.specs.declared.TheConstants.{MAX_HOLDERS, MAX_SLOTS, MAX_BYTES}
 use Rattle.wave_problem.specs.declared.lines.WorkerLine.{WorkerLine}
 use Rattle.wave_problem.specs.Wave.{IsHeldWell, Split, Wave, wave_from}
+use Rattle.wave_arrays.specs.declared.TheConstants.{MAX_SPLITS}
 use Rattle.wave_arrays.specs.declared.array_rows.WorkerRow.{WorkerRow}
 use Rattle.wave_arrays.specs.declared.array_rows.SplitRow.{SplitRow}
 use Rattle.wave_arrays.specs.declared.array_rows.PairRow.{PairRow}
@@ -38,14 +39,15 @@ tree_in rows = record {
 abbrev pub IsListed : List PairRow → ℕ → ℕ → Type 0
 IsListed pairs s w = Contains pairs (record { split = s; worker = w })
 
--- the set of these pairs; `the_barred_are_those_listed` says which they are
-abbrev pub barred_in : List PairRow → List ℕ
-barred_in pairs = fold (λ set pair. with_pair set pair.split pair.worker) no_pairs pairs
+-- the set of these pairs, in a table of so many splits; `the_barred_are_those_listed` says which they are
+abbrev pub barred_in : ℕ → List PairRow → List ℕ
+barred_in splits pairs = fold (λ set pair. with_pair set pair.split pair.worker) (no_pairs splits) pairs
 
 -- the wave that the rows make
 abbrev pub wave_in : WaveRows → Wave
 wave_in rows = wave_from (tree_in rows) (map worker_of rows.workers.now)
-    (map (split_of rows.holders.now) rows.splits.now) (barred_in rows.barred.now)
+    (map (split_of rows.holders.now) rows.splits.now)
+    (barred_in (length rows.splits.now) rows.barred.now)
 
 -- ---- which rows make one
 
@@ -96,7 +98,7 @@ pub record AreFit (rows : WaveRows) : Type 0 where
 
 -- ---- a law
 
--- a pair is barred just where it is listed
+-- of pairs of so many splits, one is barred just where it is listed
 abbrev pub TheBarredAreThoseListed : Type 0
-TheBarredAreThoseListed = (pairs : List PairRow) → All (IsPairKnown MAX_SPLITS MAX_WORKERS) pairs →
-    (s w : ℕ) → w < 256 → HasPair (barred_in pairs) s w ↔ IsListed pairs s w
+TheBarredAreThoseListed = (splits : ℕ) (pairs : List PairRow) → All (IsPairKnown splits MAX_WORKERS) pairs →
+    (s w : ℕ) → w < 256 → HasPair (barred_in splits pairs) s w ↔ IsListed pairs s w

@@ -1,8 +1,8 @@
 //! The problem that rows make.
-ghost use Rattle.std.specs.Prelude.{◌≡◌, ◌<◌, length, map, All, IfOk};
-ghost use Rattle.node_ids.specs.Sets.{with_pair};
+ghost use Rattle.std.specs.Prelude.{◌≡◌, ◌<◌, ◌≤◌, length, map, All, IfOk};
+ghost use Rattle.node_ids.specs.Sets.{with_pair, HasRoomFor};
 ghost use Rattle.rack_tree.specs.declared.TheConstants.{MAX_CENTRES, MAX_WORKERS};
-ghost use Rattle.wave_problem.specs.declared.TheConstants.{MAX_SPLITS};
+ghost use Rattle.wave_arrays.specs.declared.TheConstants.{MAX_SPLITS};
 ghost use Rattle.wave_arrays.specs.Rows.{AreFit, AreRacksFit, AreWorkersFit, IsPairKnown, IsSplitFit};
 ghost use Rattle.wave_arrays.specs.Rows.{TheBarredAreThoseListed, barred_in, split_of, tree_in, wave_in};
 ghost use Rattle.wave_arrays.specs.Rows.{worker_of};
@@ -21,7 +21,7 @@ pub fn build_problem(alloc: Global, rows: &WaveRows<'_>) -> Result<Problem, Allo
     let workers = build_workers(alloc, rows.workers)?;
     let holders = numbered(alloc, rows.holders)?;
     let splits = build_splits(alloc, &holders, rows.splits)?;
-    let barred = build_barred(alloc, rows.barred)?;
+    let barred = build_barred(alloc, rows.splits.len(), rows.barred)?;
     let tree = build_tree(alloc, rows)?;
     Problem::within_limits(alloc, tree, workers, &splits, barred)
 }
@@ -81,11 +81,13 @@ fn worker_line(row: &WorkerRow) -> WorkerLine
     }
 }
 
-fn build_barred(alloc: Global, pairs: &[PairRow]) -> Result<PairSet, AllocError>
-    requires { All (IsPairKnown MAX_SPLITS MAX_WORKERS) pairs.now }
-    ensures { IfOk result (λ set. set ≡ barred_in pairs.now) }
+// The set of these pairs, with room for those of so many splits.
+fn build_barred(alloc: Global, splits: usize, pairs: &[PairRow]) -> Result<PairSet, AllocError>
+    requires few { splits ≤ MAX_SPLITS }
+    requires known { All (IsPairKnown splits MAX_WORKERS) pairs.now }
+    ensures { IfOk result (λ set. set ≡ barred_in splits pairs.now) }
 {
-    let mut set = PairSet::new(alloc)?;
+    let mut set = PairSet::new(alloc, splits)?;
     for pair in pairs {
         bar(&mut set, *pair);
     }
@@ -93,10 +95,11 @@ fn build_barred(alloc: Global, pairs: &[PairRow]) -> Result<PairSet, AllocError>
 }
 
 fn bar(set: &mut PairSet, pair: PairRow)
-    requires { IsPairKnown MAX_SPLITS MAX_WORKERS pair }
+    requires room { HasRoomFor set.old pair.split }
+    requires worker { pair.worker < MAX_WORKERS }
     ensures { set.new ≡ with_pair set.old pair.split pair.worker }
 {
-    set.put(SplitNo::new(pair.split), WorkerNo::new(pair.worker));
+    set.put(SplitNo::new(pair.split as u32), WorkerNo::new(pair.worker));
 }
 
 fn numbered(alloc: Global, numbers: &[u16]) -> Result<Vec<WorkerNo>, AllocError>

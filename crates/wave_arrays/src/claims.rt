@@ -1,7 +1,7 @@
 //! Plans and prices as a caller's arrays.
 ghost use Rattle.std.specs.Prelude.{◌≡◌, ◌≢◌, ℕ, ◌<◌, ◌≤◌, ◌↔◌, IsTrue, length, map, All, IfOk, IfSome};
 ghost use Rattle.rack_tree.specs.declared.TheConstants.{MAX_WORKERS};
-ghost use Rattle.wave_problem.specs.declared.TheConstants.{MAX_SPLITS};
+ghost use Rattle.wave_arrays.specs.declared.TheConstants.{MAX_SPLITS};
 ghost use Rattle.wave_arrays.specs.Claims.{AreStartsFit, IsStartFit, prices_in, start_in};
 
 use node_ids::{SplitNo, WorkerNo};
@@ -80,7 +80,7 @@ pub fn write_starts(plan: &Plan, starts: &mut [u16])
     ensures { map start_in starts.new ≡ plan.now.starts }
 {
     for split in 0..plan.splits() {
-        starts[split] = number_of(plan.of(SplitNo::new(split as u16)));
+        starts[split] = number_of(plan.of(SplitNo::new(split as u32)));
     }
 }
 
@@ -101,7 +101,7 @@ pub fn write_split_prices(prices: &Prices, list: &mut [u64])
     ensures { list.new ≡ prices.now.splits }
 {
     for split in 0..list.len() {
-        list[split] = prices.split(SplitNo::new(split as u16));
+        list[split] = prices.split(SplitNo::new(split as u32));
     }
 }
 

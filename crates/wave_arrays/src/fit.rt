@@ -6,11 +6,12 @@ ghost use Rattle.wave_arrays.specs.Rows.{AreBarsFit, AreFit, AreHoldersFit, AreR
 ghost use Rattle.wave_arrays.specs.Rows.{AreWorkersFit, IsPairKnown, IsSplitFit, split_of};
 ghost use Rattle.wave_arrays.specs.Refusals.{IsRefusal};
 
+use crate::MAX_SPLITS;
 use crate::array_rows::{PairRow, SplitRow, WaveRows};
 use crate::places::{unfit_holders, unfit_pair, unfit_rack, unfit_split, unfit_worker};
 use rack_tree::{MAX_CENTRES, MAX_RACKS, MAX_WORKERS};
 use thiserror::Error;
-use wave_problem::{MAX_BYTES, MAX_HOLDERS, MAX_SPLITS};
+use wave_problem::{MAX_BYTES, MAX_HOLDERS};
 
 /// Which rows are not fit, in the order in which they are tested.
 #[derive(Clone, Copy, Debug, PartialEq, Eq, Error)]

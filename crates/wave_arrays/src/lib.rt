@@ -20,3 +20,6 @@ pub use claims::{
 };
 pub use fit::{RowsError, test_rows};
 pub use places::{unfit_holders, unfit_pair, unfit_rack, unfit_split, unfit_start, unfit_worker};
+
+/// How many splits the rows of a wave hold at most: as many as 16 bits number, with one number kept for none.
+pub const MAX_SPLITS: usize = 65_535;

@@ -1,5 +1,5 @@
 -- A plan with prices, as a caller sees it.
-use Rattle.std.specs.Prelude.{ℕ, List, Option}
+use Rattle.std.specs.Prelude.{ℕ, ◌≡◌, ◌<◌, List, Option, length}
 use Rattle.wave_problem.specs.Wave.{Wave}
 use Rattle.wave_problem.specs.Assignment.{Plan}
 use Rattle.price_certificate.specs.PriceList.{PriceList}
@@ -10,6 +10,7 @@ use Rattle.flow_network.specs.declared.kinds.NetworkKind.{NetworkKind}
 use Rattle.flow_network.specs.declared.kinds.NetworkKind.TheVariants.{Direct, Racks}
 use Rattle.network_prices.specs.Prices.{IsReadOff}
 use Rattle.direct_network.specs.Direct.{direct_nodes, IsDirect}
+use Rattle.direct_network.specs.declared.network.TheConstants.{MAX_SPLITS}
 use Rattle.rack_network.specs.Racks.{rack_nodes, IsRackNetwork}
 
 pub record Planned : Type 0 where
@@ -26,6 +27,10 @@ pub record IsPlanFor (wave : Wave) (planned : Planned) : Type 0 where
 pub record WasCertified (planned : Planned) : Type 0 where
   pub wave : Wave
   pub plan_for : IsPlanFor wave planned
+
+-- the problem has more splits than the direct network is built for, and that network is asked for
+abbrev pub IsPast : NetworkKind → Wave → Type 0
+IsPast kind wave = (kind ≡ Direct) × (MAX_SPLITS < length wave.splits)
 
 -- starts and prices that were read off a least-cost flow of the network of this kind
 abbrev pub IsMadeOver : NetworkKind → Wave → List (Option ℕ) → PriceList → Type 0

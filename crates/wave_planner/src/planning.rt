@@ -1,5 +1,6 @@
 //! Plans a wave.
-ghost use Rattle.std.specs.Prelude.{◌≡◌, ℕ, ◌*◌, ◌<◌, ◌≤◌, length, unwrap_or, All, IfOk};
+ghost use Rattle.std.specs.Prelude.{◌≡◌, ◌≢◌, ℕ, ◌*◌, ◌<◌, ◌≤◌, ◌↔◌, length, unwrap_or};
+ghost use Rattle.std.specs.Prelude.{All, IfOk, IsTrue, Err};
 ghost use Rattle.rack_tree.specs.declared.TheConstants.{MAX_DISTANCE};
 ghost use Rattle.wave_problem.specs.declared.TheConstants.{MAX_BYTES, MAX_SPLITS};
 ghost use Rattle.wave_problem.specs.Assignment.{pairs_of, total, IsBest};
@@ -7,7 +8,7 @@ ghost use Rattle.wave_problem.specs.Wave.{cost, IsUsable};
 ghost use Rattle.price_certificate.specs.Certificate.{claim, worker_price, Certifies, HasOneSize};
 ghost use Rattle.flow_network.specs.declared.kinds.NetworkKind.{NetworkKind};
 ghost use Rattle.rack_network.specs.Racks.{IsTree};
-ghost use Rattle.wave_planner.specs.Planned.{IsMadeOver, WasCertified, Planned};
+ghost use Rattle.wave_planner.specs.Planned.{IsMadeOver, IsPast, WasCertified, Planned};
 ghost use Rattle.wave_planner.specs.PlannedView.{planned_of};
 
 use certificate_checker::{Certified, count_and_cost};
@@ -173,7 +174,7 @@ pub fn pairs_of(alloc: Global, plan: &Plan) -> Result<Vec<(SplitNo, WorkerNo)>, 
 {
     let mut pairs = Vec::new(alloc);
     for s in 0..plan.splits() {
-        let split = SplitNo::new(s as u16);
+        let split = SplitNo::new(s as u32);
         if let Some(worker) = plan.of(split) {
             pairs.push((split, worker))?;
         }
@@ -187,6 +188,9 @@ pub enum PlanError {
     /// There is no memory for the network, the search, the plan or the prices.
     #[error("no memory")]
     Memory,
+    /// The problem has more splits than a direct network is built for.
+    #[error("too many splits for a direct network")]
+    Size,
 }
 
 /// A plan that starts as many splits as any admissible assignment, at the least cost among those, with
@@ -202,12 +206,14 @@ pub fn plan(alloc: Global, problem: &Problem) -> Result<Planned, PlanError>
     ensures count { IfOk result (λ planned. planned.certified.count ≡ length (pairs_of planned.plan.starts)) }
     ensures cost { IfOk result (λ planned.
         planned.certified.cost ≡ total problem.now (pairs_of planned.plan.starts)) }
+    ensures size { result ≢ Err PlanError.Size }
 {
     plan_with(alloc, problem, NetworkKind::Racks)
 }
 
 /// The same over a network of this kind. The direct network is built, and takes one augmentation for each
-/// pending split; that with racks is answered over the tree.
+/// pending split; that with racks is answered over the tree. Whether the problem is small enough for a direct
+/// network is tested before memory is taken.
 pub fn plan_with(alloc: Global, problem: &Problem, kind: NetworkKind) -> Result<Planned, PlanError>
     ensures over { IfOk result (λ planned. IsMadeOver kind problem.now planned.plan.starts planned.prices) }
     ensures sizes { IfOk result (λ planned.
@@ -218,13 +224,27 @@ pub fn plan_with(alloc: Global, problem: &Problem, kind: NetworkKind) -> Result<
     ensures count { IfOk result (λ planned. planned.certified.count ≡ length (pairs_of planned.plan.starts)) }
     ensures cost { IfOk result (λ planned.
         planned.certified.cost ≡ total problem.now (pairs_of planned.plan.starts)) }
+    ensures size { (result ≡ Err PlanError.Size) ↔ IsPast kind problem.now }
 {
+    if is_too_large(problem, kind) {
+        return Err(PlanError::Size);
+    }
     let Ok((plan, prices)) = priced_plan_over(alloc, problem, kind) else {
         return Err(PlanError::Memory);
     };
     match pairs_of(alloc, &plan) {
         Ok(pairs) => Ok(certified_plan(problem, plan, prices, pairs)),
         Err(_) => Err(PlanError::Memory),
+    }
+}
+
+// Whether no network of this kind is built for the problem.
+fn is_too_large(problem: &Problem, kind: NetworkKind) -> bool
+    ensures { IsTrue result ↔ IsPast kind problem.now }
+{
+    match kind {
+        NetworkKind::Direct => problem.splits() > direct_network::MAX_SPLITS,
+        NetworkKind::Racks => false,
     }
 }
 

@@ -1,7 +1,6 @@
 ghost use Rattle.std.specs.Prelude.{◌≡◌, ℕ, ◌<◌, ◌≤◌, ◌↔◌, true, length, All, IsTrue};
 ghost use Rattle.node_ids.specs.Sets.{Has, HasPair};
 ghost use Rattle.rack_tree.specs.declared.TheConstants.{MAX_WORKERS};
-ghost use Rattle.wave_problem.specs.declared.TheConstants.{MAX_SPLITS};
 ghost use Rattle.wave_problem.specs.Wave.{split_at, AreFree, IsAdmissible, IsUsable, Wave};
 
 use crate::lines::{SplitRef, WorkerLine};
@@ -40,7 +39,6 @@ pub fn may_start(
 ) -> bool
     requires workers { length workers.now ≤ MAX_WORKERS }
     requires free { AreFree workers.now free.now }
-    requires split { split < MAX_SPLITS }
     requires holders { All (λ h. h < length workers.now) line.now.holders }
     ensures { (wave : Wave) → wave.workers ≡ workers.now → wave.barred ≡ barred.now
         → split_at wave split ≡ line.now → IsTrue result ↔ ((w : ℕ) × IsAdmissible wave split w) }
@@ -50,7 +48,6 @@ pub fn may_start(
 
 // Whether the split is not barred from one of the workers.
 fn is_any_open(free: &WorkerSet, barred: &PairSet, split: SplitNo) -> bool
-    requires split { split < MAX_SPLITS }
     requires known { (w : ℕ) → Has free.now w → w < MAX_WORKERS }
     ensures { IsTrue result ↔ ((w : ℕ) × Has free.now w × (HasPair barred.now split w → ⊥)) }
 {

@@ -90,7 +90,7 @@ fn are_same_splits(wave: &Problem, other: &Problem) -> bool
         return false;
     }
     for number in 0..wave.splits() {
-        if !is_same_split(wave, other, SplitNo::new(number as u16)) {
+        if !is_same_split(wave, other, SplitNo::new(number as u32)) {
             return false;
         }
     }
@@ -124,7 +124,7 @@ fn are_same_bars(wave: &Problem, other: &Problem) -> bool
         return false;
     }
     for number in 0..other.splits() {
-        let split = SplitNo::new(number as u16);
+        let split = SplitNo::new(number as u32);
         if wave.bars(split) != other.bars(split) {
             return false;
         }
@@ -140,7 +140,7 @@ pub(crate) fn are_same_starts(plan: &Plan, other: &Plan) -> bool
         return false;
     }
     for number in 0..plan.splits() {
-        let split = SplitNo::new(number as u16);
+        let split = SplitNo::new(number as u32);
         if plan.of(split) != other.of(split) {
             return false;
         }
@@ -165,7 +165,7 @@ fn are_same_split_prices(prices: &Prices, other: &Prices) -> bool
         return false;
     }
     for number in 0..prices.splits() {
-        let split = SplitNo::new(number as u16);
+        let split = SplitNo::new(number as u32);
         if prices.split(split) != other.split(split) {
             return false;
         }

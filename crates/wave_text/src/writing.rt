@@ -120,7 +120,7 @@ fn add_worker(
 
 fn add_splits(lines: &mut String, rows: &Rows<'_>, problem: &Problem) -> Result<(), AllocError> {
     for number in 0..problem.splits() {
-        let split = SplitNo::new(number as u16);
+        let split = SplitNo::new(number as u32);
         let (name, bytes) = (split_name(rows, number), problem.bytes(split));
         write!(lines, "split {name} {bytes}")?;
         add_holders(lines, rows, problem.holders(split))?;
@@ -153,7 +153,7 @@ fn add_dead(lines: &mut String, rows: &Rows<'_>, problem: &Problem) -> Result<()
 // The splits that are not pending.
 fn add_busy(lines: &mut String, rows: &Rows<'_>, problem: &Problem) -> Result<(), AllocError> {
     for number in 0..problem.splits() {
-        if !problem.is_pending(SplitNo::new(number as u16)) {
+        if !problem.is_pending(SplitNo::new(number as u32)) {
             let name = split_name(rows, number);
             write!(lines, "busy {name}\n")?;
         }
@@ -163,7 +163,7 @@ fn add_busy(lines: &mut String, rows: &Rows<'_>, problem: &Problem) -> Result<()
 
 fn add_bars(lines: &mut String, rows: &Rows<'_>, problem: &Problem) -> Result<(), AllocError> {
     for number in 0..problem.splits() {
-        let bars = problem.bars(SplitNo::new(number as u16));
+        let bars = problem.bars(SplitNo::new(number as u32));
         if !bars.is_empty() {
             add_bars_of(lines, rows, number, &bars, problem.workers())?;
         }
@@ -193,7 +193,7 @@ fn add_bars_of(
 
 fn add_starts(lines: &mut String, rows: &Rows<'_>, plan: &Plan) -> Result<(), AllocError> {
     for number in 0..plan.splits() {
-        if let Some(worker) = plan.of(SplitNo::new(number as u16)) {
+        if let Some(worker) = plan.of(SplitNo::new(number as u32)) {
             let (split, name) = (split_name(rows, number), worker_name(rows, worker.index()));
             write!(lines, "start {split} {name}\n")?;
         }
@@ -205,7 +205,7 @@ fn add_split_prices(lines: &mut String, rows: &Rows<'_>, prices: &Prices) -> Res
     requires { length prices.now.splits ≤ MAX_SPLITS }
 {
     for number in 0..prices.splits() {
-        let price = prices.split(SplitNo::new(number as u16));
+        let price = prices.split(SplitNo::new(number as u32));
         add_price(lines, split_name(rows, number), price)?;
     }
     Ok(())

@@ -17,7 +17,7 @@ fresh slots = record { live = true; slots = slots; taken = 0; beat = 0; silence 
 
 -- all workers live, nothing barred
 abbrev pub opening_workers : List ℕ → ℕ → Workers
-opening_workers slots limit = record { limit = limit; each = map fresh slots; barred = no_pairs }
+opening_workers slots limit = record { limit = limit; each = map fresh slots; barred = no_pairs 1024 }
 
 -- the worker w; one past the last is dead and has no slots
 abbrev pub worker_at : Workers → ℕ → Worker
@@ -40,7 +40,7 @@ is_barred t split w = has_number t.barred (place_of_pair split w)
 
 -- what each worker of a table keeps
 pub record IsWithin (limit : ℕ) (worker : Worker) : Type 0 where
-  pub slots : worker.slots ≤ 16
+  pub slots : worker.slots ≤ 255
   pub taken : worker.taken ≤ worker.slots
   pub silence : worker.silence ≤ limit
 

@@ -44,7 +44,8 @@ impl Model for WorkerTable {
 
     ghost view = { table_of };
 
-    ghost invariant = { λ t. IsTable (table_of t) };
+    // (the pairs have room for 1,024 splits)
+    ghost invariant = { λ t. IsTable (table_of t) × (length t.bars ≡ 4096) };
 }
 
 impl WorkerTable {
@@ -52,14 +53,14 @@ impl WorkerTable {
     /// new beat at which a worker is silent too long. The table of bars, 32 KiB, is for 1,024 splits.
     pub fn new(alloc: Global, slots: &[u8], silence: u32) -> Result<WorkerTable, AllocError>
         requires workers { length slots.now ≤ 256 }
-        requires slots { All (λ n. n ≤ 16) slots.now }
+        requires slots { All (λ n. n ≤ 255) slots.now }
         requires silence { 1 ≤ silence }
         ensures { IfOk result (λ table. table ≡ opening_workers slots.now silence) }
     {
         Ok(WorkerTable {
             limit: silence,
             workers: fresh_workers(alloc, slots, silence)?,
-            bars: PairSet::new(alloc)?,
+            bars: PairSet::new(alloc, 1024)?,
         })
     }
 
@@ -83,7 +84,7 @@ impl WorkerTable {
     pub fn slots(&self, worker: WorkerNo) -> u8
         requires { worker < length self.now.each }
         ensures count { result ≡ (worker_at self.now worker).slots }
-        ensures most { result ≤ 16 }
+        ensures most { result ≤ 255 }
     {
         self.workers[worker.index()].slots
     }
@@ -92,7 +93,7 @@ impl WorkerTable {
     pub fn free(&self, worker: WorkerNo) -> u8
         requires { worker < length self.now.each }
         ensures count { result ≡ free_slots self.now worker }
-        ensures most { result ≤ 16 }
+        ensures most { result ≤ 255 }
     {
         let found = self.workers[worker.index()];
         found.slots - found.taken
@@ -202,7 +203,7 @@ fn has_free_slot(worker: &Worker) -> bool
 }
 
 fn fresh_workers(alloc: Global, slots: &[u8], limit: u32) -> Result<Vec<Worker>, AllocError>
-    requires { All (λ n. n ≤ 16) slots.now }
+    requires { All (λ n. n ≤ 255) slots.now }
     ensures each { IfOk result (λ workers. workers.items ≡ map fresh slots.now) }
     ensures within { IfOk result (λ workers. All (IsWithin limit) workers.items) }
 {

@@ -3,11 +3,12 @@ use Rattle.std.proofs.Common.{ℕ, List, [], ◌∷◌, ◌++◌, ◌≡◌, ◌
 use Rattle.std.proofs.Common.{subst, arith, length-append}
 use Rattle.std.proofs.Math.Seq.{take-append_seam}
 use Rattle.std.proofs.lemmas.Grind.{common_steps}
+use Rattle.text_lines.specs.Streams.{longest}
 use Rattle.text_lines.specs.Texts.{Line, lines_of}
 use Rattle.line_shapes.specs.Lines.{Statement}
 use Rattle.line_rules.specs.Known.{Known, entered, known_at}
 use Rattle.line_rules.specs.Reading.{AreFitLines, IsAllRead, IsFitLine, Takes}
-use Rattle.line_rules.specs.Texts.{Declare, ReadsAs, longest}
+use Rattle.line_rules.specs.Texts.{Declare, ReadsAs}
 use Rattle.line_rules.specs.declared.purpose.Purpose.{Purpose}
 use Rattle.line_rules.specs.declared.section.Section.TheVariants.{Ended}
 use Rattle.line_rules.proofs.FitLines.{names_after}
@@ -53,7 +54,7 @@ same_statements purpose text ls ss ts lines fits reads =
     grind (arith, common_steps, length-append, take-append_seam, declare-unique, fit-declare)
 
 pub reads_fit : (purpose : Purpose) (text : List ℕ) (ls : List Line) (ss : List Statement)
-    → length text ≤ longest → lines_of text ≡ ls ++ [] ∷ [] → AreFitLines (known_at purpose []) ls ss
+    → length text ≤ longest text → lines_of text ≡ ls ++ [] ∷ [] → AreFitLines (known_at purpose []) ls ss
     → (names_after (known_at purpose []) ss).section ≡ Ended → ReadsAs purpose text ss
 reads_fit purpose text ls ss short lines fits ended =
     let start = known_at purpose [] in

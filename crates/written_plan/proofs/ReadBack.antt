@@ -3,13 +3,13 @@ use Rattle.std.proofs.Common.{zip, ℕ, List, [], ◌∷◌, ◌++◌, ◌≡◌
 use Rattle.std.proofs.Common.{sym, ap, subst}
 use Rattle.wave_problem.specs.Wave.{Wave}
 use Rattle.price_certificate.specs.PriceList.{PriceList}
+use Rattle.text_lines.specs.Streams.{longest}
 use Rattle.text_lines.specs.Texts.{Word, lines_of}
 use Rattle.line_shapes.specs.Lines.{Statement}
 use Rattle.line_shapes.specs.declared.keyword.Keyword.TheVariants.{Worker, Split, Plan, End}
 use Rattle.line_rules.specs.Known.{Known, known_at, section_at}
 use Rattle.line_rules.specs.Reading.{AreFitLines}
 use Rattle.line_rules.specs.Sections.{section_after}
-use Rattle.line_rules.specs.Texts.{longest}
 use Rattle.line_rules.specs.declared.purpose.Purpose.TheVariants.{Checking, Planning}
 use Rattle.line_rules.specs.declared.section.Section.{Section}
 use Rattle.line_rules.specs.declared.section.Section.TheVariants.{First, Head, Body, Ended}
@@ -65,7 +65,8 @@ joined-reads_back : (text : List ℕ) (ss : List Statement) (wave : Wave) (start
     → (h : IsHeadAndEnd (known_at Planning []) (take (length ss) (lines_of text)) ss)
     → MakesWave (rows_in h.head) wave
     → IsWritable (names_of Split (rows_in h.head)) (names_of Worker (rows_in h.head)) starts prices
-    → length (joined_by text (rows_in h.head) starts prices) ≤ longest
+    → length (joined_by text (rows_in h.head) starts prices)
+    ≤ longest (joined_by text (rows_in h.head) starts prices)
     → ReadsBack (joined_by text (rows_in h.head) starts prices) wave starts prices
 joined-reads_back text ss wave starts prices lines h makes plan short =
     let rows = rows_in h.head in
@@ -138,7 +139,8 @@ written_plan_reads_back text v starts prices problem fit plan short =
     sym (problem.declares.workers ∙ ap (names_of Worker) same) in
     let Holds : List Word → List Word → Type 0 =
     λ xs ws. IsWritable xs ws starts prices
-    → length (with_plan text (lines_of_plan xs ws starts prices)) ≤ longest
+    → length (with_plan text (lines_of_plan xs ws starts prices))
+    ≤ longest (with_plan text (lines_of_plan xs ws starts prices))
     → ReadsBack (with_plan text (lines_of_plan xs ws starts prices)) v.problem starts prices in
     let here : Holds (names_of Split rows) (names_of Worker rows) =
     joined-reads_back text ss v.problem starts prices (all_lines Planning text ss problem.reads) h

@@ -5,9 +5,10 @@ use Rattle.std.specs.List.{All}
 use Rattle.wave_problem.specs.Wave.{Wave}
 use Rattle.wave_problem.specs.Assignment.{start_of}
 use Rattle.price_certificate.specs.PriceList.{PriceList}
+use Rattle.text_lines.specs.Streams.{longest}
 use Rattle.text_lines.specs.Texts.{Word}
 use Rattle.line_shapes.specs.Lines.{Statement}
-use Rattle.line_rules.specs.Texts.{ReadsAs, longest}
+use Rattle.line_rules.specs.Texts.{ReadsAs}
 use Rattle.line_rules.specs.declared.purpose.Purpose.TheVariants.{Checking, Planning}
 use Rattle.plan_text.specs.Reading.{HasFitLines, IsProblemOf}
 use Rattle.plan_text.specs.Report.{lines_of_plan}
@@ -52,5 +53,6 @@ pub record ReadsBack (text : List ℕ) (wave : Wave) (starts : List (Option ℕ)
 abbrev pub WrittenPlanReadsBack : Type 0
 WrittenPlanReadsBack = (text : List ℕ) (v : ProblemText) (starts : List (Option ℕ)) (prices : PriceList)
     → IsProblemOf text v → HasFitLines Planning text → IsWritable v.splits v.workers starts prices
-    → length (with_plan text (lines_of_plan v.splits v.workers starts prices)) ≤ longest
+    → length (with_plan text (lines_of_plan v.splits v.workers starts prices))
+    ≤ longest (with_plan text (lines_of_plan v.splits v.workers starts prices))
     → ReadsBack (with_plan text (lines_of_plan v.splits v.workers starts prices)) v.problem starts prices

@@ -1,6 +1,7 @@
 //! The waves of a master: what is to be planned, and what starts.
 ghost use Rattle.std.specs.Prelude.{◌≡◌, ◌≢◌, ◌<◌, ◌≤◌, length, false, true, Err, IfErr};
 ghost use Rattle.std.specs.Prelude.{IfOk, OnErr, OnOk};
+ghost use Rattle.wave_problem.specs.declared.TheConstants.{MAX_SPLITS};
 ghost use Rattle.wave_problem.specs.Assignment.{IsBest, pairs_of};
 ghost use Rattle.price_certificate.specs.declared.Condition.{Condition};
 ghost use Rattle.price_certificate.specs.Certificate.{Certifies, IsFirstFailure};
@@ -150,7 +151,7 @@ impl Master {
         certified: Certified,
     ) -> Result<Wave, CommitError>
         requires pairs { pairs.now ≡ pairs_of plan.now.starts }
-        requires few { length plan.now.starts ≤ 1024 }
+        requires few { length plan.now.starts ≤ MAX_SPLITS }
         requires best { IsBest (problem_of self.old.setup self.old.state) (pairs_of plan.now.starts) }
         requires priced { HasPrices self.old.setup self.old.state plan.now.starts }
         requires counted { HasTotals self.old plan.now.starts certified }

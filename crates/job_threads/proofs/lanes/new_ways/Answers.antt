@@ -3,5 +3,8 @@ use Rattle.std.proofs.lemmas.Grind.{common_steps}
 use Rattle.std.proofs.lemmas.List.{map-append}
 use Rattle.job_threads.proofs.lanes.new_ways.Goals as goal
 
-pub loop-preserved : goal.loop-preserved
-loop-preserved c = (grind (arith, common_steps), grind (arith, common_steps, map-append))
+pub loop-slots-preserved : goal.loop-slots-preserved
+loop-slots-preserved c = record {
+  places = grind (arith, common_steps, map-append);
+  passes = grind (arith, common_steps, map-append);
+}

@@ -31,4 +31,4 @@ returns-clause-fit c =
       texts = c.in_ok-texts.ensures;
       parts = c.setting_of-parts.ensures;
       silence = c.setting_of-silence.ensures;
-    })
+    }) c.requires

@@ -1,4 +1,4 @@
-use Rattle.std.proofs.Common.{List, arith, subst, sym}
+use Rattle.std.proofs.Common.{arith, subst, sym}
 use Rattle.std.specs.List.{All}
 use Rattle.line_shapes.specs.declared.keyword.Keyword.TheVariants.{Target}
 use Rattle.line_rules.specs.Known.{rows_of}

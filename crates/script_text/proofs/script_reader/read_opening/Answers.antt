@@ -1,12 +1,18 @@
+use Rattle.std.proofs.Common.{inl, refl}
 use Rattle.line_rules.specs.declared.purpose.Purpose.TheVariants.{Playing}
 use Rattle.plan_text.proofs.Tidy.{tidy-read}
 use Rattle.script_text.proofs.OfHead.{is_of_head, is_target}
+use Rattle.script_text.proofs.Read.{few_splits-read}
 use Rattle.script_text.proofs.Ready.{ready-read}
 use Rattle.script_text.proofs.script_reader.read_opening.Goals as goal
 
 pub script_of-requires-clause-tidy : goal.script_of-requires-clause-tidy
 script_of-requires-clause-tidy c =
     tidy-read Playing c.args.text.now c.in_ok-known.known c.in_ok-known.ensures.ok
+
+pub script_of-requires-clause-few : goal.script_of-requires-clause-few
+script_of-requires-clause-few c =
+    few_splits-read Playing c.args.text.now c.in_ok-known.known (inl refl) c.in_ok-known.ensures.ok
 
 pub script_of-requires-clause-ready : goal.script_of-requires-clause-ready
 script_of-requires-clause-ready c =

@@ -29,7 +29,7 @@ loop-k-preserved c =
     let here = c.set.ensures.here 0 in
     let deep = c.deepened-deep.ensures in
     let depth = c.get.ensures 0 in
-    let far = c.get-in-loop-k.ensures (2 ^ 48) in
+    let far = c.get-in-loop-k.ensures (2 ^ 54) in
     record {
       over = over_sized c.args.problem.now.tree now new i.over c.set.ensures.size;
       low = λ v. elim (same_or_not v node) [

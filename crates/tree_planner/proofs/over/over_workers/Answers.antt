@@ -23,7 +23,7 @@ pub over_rest-requires-clause-other : goal.over_rest-requires-clause-other
 over_rest-requires-clause-other c =
     let old = c.args.search.now in
     let covered = c.requires.searching.covered c.args.rack in
-    let is = ap (λ (x : Cover). x.split) (c.get-cover.ensures (record { offset = 2 ^ 49; split = old.split })) in
+    let is = ap (λ (x : Cover). x.split) (c.get-cover.ensures (record { offset = 2 ^ 55; split = old.split })) in
     let known = covered.known in
     omega arith
 
@@ -36,7 +36,7 @@ returns-then-cover-offset-clause-over c =
     let new = c.over_rest.new.search in
     let i = c.over_rest.ensures.improves in
     let cover = c.get-cover.result in
-    let is : cover ≡ cover_at old c.args.rack = c.get-cover.ensures (record { offset = 2 ^ 49; split = old.split }) in
+    let is : cover ≡ cover_at old c.args.rack = c.get-cover.ensures (record { offset = 2 ^ 55; split = old.split }) in
     let covered : IsCovered g new cover c.args.rack =
     cover_kept old new i.nearer g cover c.args.rack
     (subst (λ cover. IsCovered g old cover c.args.rack) (sym is) (c.requires.searching.covered c.args.rack)) in

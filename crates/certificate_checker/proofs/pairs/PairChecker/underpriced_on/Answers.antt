@@ -1,5 +1,6 @@
 use Rattle.std.proofs.Common.{◌≡◌, ◌<◌, ◌-◌, ◌∙◌, length, ap, arith}
 use Rattle.std.specs.List.{range_with_len}
+use Rattle.wave_problem.specs.declared.TheConstants.{MAX_SPLITS}
 use Rattle.certificate_checker.specs.Verdict.{IsFirstUnderpriced}
 use Rattle.certificate_checker.proofs.Rows.{rows-at, rows-long}
 use Rattle.rayon.specs.Numbers.{nat_range}
@@ -13,7 +14,7 @@ collect-requires-clause-ready g c κs within =
     let claim = c.args.self.now in
     let ends = c.into_par_iter.ensures in
     let n = c.splits.result in
-    let inside = nat_range-All (λ i. (i < length claim.wave.splits) × (i < 1024)) 0 n
+    let inside = nat_range-All (λ i. (i < length claim.wave.splits) × (i < MAX_SPLITS)) 0 n
     (λ i low high. (omega (arith, c.splits.ensures.count), omega (arith, c.splits.ensures.most))) in
     rw (c.with_min_len.ensures.base, c.map.ensures.base, c.map.ensures.f, ends.0, ends.1)
     (λ k d lt. (inside k d lt, λ y p. tt))

@@ -10,7 +10,7 @@ returns-then-free-clause-kept c = λ g ground s free known leads.
     (let old = c.args.self.now in
     let far = c.set.new.self in
     let how = c.set-then-distance-far.new.self in
-    let is = c.get-far.ensures (2 ^ 48) in
+    let is = c.get-far.ensures (2 ^ 54) in
     let v = c.args.node in
     let d = c.args.distance in
     let st = c.args.step in
@@ -23,7 +23,7 @@ returns-then-free-clause-kept c = λ g ground s free known leads.
     let b = c.requires.beyond in
     let n = c.note.ensures in
     let row = c.note.new.self in
-    let short : d < 2 ^ 48 = (let limit = s.limit in let small = ground.small in let most = s.bound in omega arith) in
+    let short : d < 2 ^ 54 = (let limit = s.limit in let small = ground.small in let most = s.bound in omega arith) in
     reach_kept old far how v d st nearer near short d (Slot v) (omega arith) b h o hh ho row n.room (λ past. n.count (omega arith)) (λ past. n.node (omega arith))
     (λ close. n.same (omega arith)) g ground known
     (over_sized (wave_of g).tree old.far far s.tables.far c.set.ensures.size)
@@ -38,7 +38,7 @@ returns-else-free-clause-kept c = λ g ground s free known leads.
     (let old = c.args.self.now in
     let far = c.set.new.self in
     let how = c.set-then-distance-far.new.self in
-    let is = c.get-far.ensures (2 ^ 48) in
+    let is = c.get-far.ensures (2 ^ 54) in
     let v = c.args.node in
     let d = c.args.distance in
     let st = c.args.step in
@@ -51,7 +51,7 @@ returns-else-free-clause-kept c = λ g ground s free known leads.
     let b = c.requires.beyond in
     let n = c.note.ensures in
     let row = c.note.new.self in
-    let short : d < 2 ^ 48 = (let limit = s.limit in let small = ground.small in let most = s.bound in omega arith) in
+    let short : d < 2 ^ 54 = (let limit = s.limit in let small = ground.small in let most = s.bound in omega arith) in
     reach_kept old far how v d st nearer near short old.bound old.goal (omega arith) b h o hh ho row n.room (λ past. n.count (omega arith)) (λ past. n.node (omega arith))
     (λ close. n.same (omega arith)) g ground known
     (over_sized (wave_of g).tree old.far far s.tables.far c.set.ensures.size)

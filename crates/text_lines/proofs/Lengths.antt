@@ -1,0 +1,79 @@
+-- How long a text may be that begins in some way, and what is read of it.
+use Rattle.std.proofs.Common.{ℕ, List, ◌≡◌, ◌+◌, ◌≤◌, ◌∙◌, ◌++◌, Bool, true, ap, arith, cond, drop}
+use Rattle.std.proofs.Common.{length, length-append, inl, inr, sym, take, take_all, append-nil, Option, Some, None}
+use Rattle.std.proofs.Common.{IfSome, refl}
+use Rattle.std.specs.Prelude.{◌==◌}
+use Rattle.std.specs.List.{starts_with}
+use Rattle.std.specs.Cmp.Lexicographic.{pointwise}
+use Rattle.std.specs.Io.KnownBytes.{Consumes, IsAtEnd}
+use Rattle.std.proofs.KnownBytes.{Consumes-trans}
+use Rattle.std.proofs.lemmas.Bool.{cases_Bool}
+use Rattle.std.proofs.lemmas.Bool.Decides.{Decides-eqb}
+use Rattle.std.proofs.lemmas.List.{take-append-le}
+use Rattle.std.proofs.lemmas.Slice.Eq.{starts_is}
+use Rattle.text_lines.specs.Streams.{ConsumesAtMost, ConsumesText, long_head, longest, most_read_of}
+
+abbrev begins_long : List ℕ → Bool
+begins_long text = starts_with (λ a b. a == b) text long_head
+
+pub longest-least : (text : List ℕ) → 16777216 ≤ longest text
+longest-least text =
+    elim (cases_Bool (begins_long text)) [ inl is ↦ rw is (omega arith) | inr is ↦ rw is (omega arith) ]
+
+pub longest-most : (text : List ℕ) → longest text ≤ 268435456
+longest-most text =
+    elim (cases_Bool (begins_long text)) [ inl is ↦ rw is (omega arith) | inr is ↦ rw is (omega arith) ]
+
+-- the first ten bytes decide
+pub longest-settled : (xs ys : List ℕ) → 10 ≤ length xs → longest (xs ++ ys) ≡ longest xs
+longest-settled xs ys le =
+    ap (λ (front : List ℕ). cond (pointwise (λ a b. a == b) long_head front) 268435456 16777216)
+    (take-append-le 10 xs ys le)
+
+-- a text that begins with the first line of a long one has these bytes
+long_enough : (text : List ℕ) → begins_long text ≡ true → 10 ≤ length text
+long_enough text is =
+    let whole : text ≡ long_head ++ drop 10 text =
+    (starts_is Decides-eqb text long_head (begins_long text) refl).0 is in
+    omega (arith, ap length whole, length-append long_head (drop 10 text))
+
+-- with more bytes a text may be as long, or longer
+pub longest-grows : (xs ys : List ℕ) → longest xs ≤ longest (xs ++ ys)
+longest-grows xs ys = elim (cases_Bool (begins_long xs)) [
+  | inl is ↦ (let same = longest-settled xs ys (long_enough xs is) in omega (arith, same))
+  | inr is ↦ rw is (longest-least (xs ++ ys))
+]
+
+-- what is read of a text that has begun, and of what follows it, is as much
+pub most-settled : (text rest : List ℕ) → most_read_of text ≤ length text
+    → most_read_of (text ++ rest) ≡ most_read_of text
+most-settled text rest full =
+    ap (λ (n : ℕ). n + 1) (longest-settled text rest (omega (arith, longest-least text, full)))
+
+-- a text as long as it may be, and one byte more, is the front of the input
+pub full_text : (a b : Option (List ℕ)) (text : List ℕ) → Consumes a b text → most_read_of text ≤ length text
+    → length text ≤ most_read_of text → IfSome a (λ xs. text ≡ take (most_read_of xs) xs)
+full_text None b text h low high = tt
+full_text (Some xs) None text h low high = absurd h
+full_text (Some xs) (Some ys) text h low high =
+    let same = ap most_read_of h ∙ most-settled text ys low in
+    sym (ap (λ (n : ℕ). take n xs) same ∙ ap (take (most_read_of text)) h
+    ∙ take-append-le (most_read_of text) text ys low ∙ take_all (most_read_of text) text high)
+
+-- a text that ended is all of the input
+pub ended_text : (a b : Option (List ℕ)) (text : List ℕ) → Consumes a b text → IsAtEnd b
+    → length text ≤ most_read_of text → IfSome a (λ xs. text ≡ take (most_read_of xs) xs)
+ended_text None b text h end high = tt
+ended_text (Some xs) None text h end high = absurd h
+ended_text (Some xs) (Some ys) text h end high =
+    let all : xs ≡ text = h ∙ ap (λ (zs : List ℕ). text ++ zs) end ∙ append-nil text in
+    sym (ap (λ (zs : List ℕ). take (most_read_of zs) zs) all ∙ take_all (most_read_of text) text high)
+
+-- what was read, and what a read took then, is no more than is read of a text
+pub within_text : (a b c : Option (List ℕ)) (text : List ℕ) (k : ℕ) → Consumes a b text
+    → ConsumesAtMost b c k → length text + k ≤ most_read_of text → ConsumesText a c
+within_text a b c text k h r fits = record {
+  bytes = text ++ r.bytes;
+  few = (let few = r.few in omega (arith, few, fits, length-append text r.bytes, longest-grows text r.bytes));
+  consumed = Consumes-trans a b c text r.bytes h r.consumed;
+}
