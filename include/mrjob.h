@@ -44,12 +44,13 @@ extern "C" {
 #define MRJOB_MAX_CENTRES 8
 #define MRJOB_MAX_RACKS 32
 #define MRJOB_MAX_WORKERS 256
-#define MRJOB_MAX_SPLITS 1024
-#define MRJOB_MAX_HOLDERS 8         /* of one split */
-#define MRJOB_MAX_SLOTS 16          /* of one worker */
-#define MRJOB_MAX_BYTES 8589934592  /* of one split, 8 GiB */
+#define MRJOB_MAX_SPLITS 65535
+#define MRJOB_MAX_DIRECT_SPLITS 1024 /* of a plan over MRJOB_DIRECT */
+#define MRJOB_MAX_HOLDERS 8          /* of one split */
+#define MRJOB_MAX_SLOTS 255          /* of one worker: any uint8_t */
+#define MRJOB_MAX_BYTES 8589934592   /* of one split, 8 GiB */
 
-/* In a place of a worker or a split: none. */
+/* In a place of a worker or a split: none. The splits are numbered below it. */
 #define MRJOB_NONE 65535
 
 /* ---- what is answered ---- */
@@ -60,20 +61,20 @@ enum mrjob_status {
     MRJOB_OK = 0,          /* planned, or certified */
     MRJOB_REFUSED = 1,     /* of a check: a condition fails, which the verdict names */
     MRJOB_BAD_RACKS = 2,   /* too many centres or racks, or a rack in no centre */
-    MRJOB_BAD_WORKERS = 3, /* too many workers, or one in no rack or with too many slots */
+    MRJOB_BAD_WORKERS = 3, /* too many workers, or one in no rack */
     MRJOB_BAD_SPLITS = 4,  /* too many splits, or one with too many bytes or holders, or some past the last */
     MRJOB_BAD_BARRED = 5,  /* a barred pair of no split or of no worker */
     MRJOB_BAD_HOLDERS = 6, /* a holder that is no worker, or that a split has twice */
     MRJOB_BAD_LENGTH = 7,  /* not one start and price for each split and one price for each worker */
     MRJOB_BAD_STARTS = 8,  /* of a check: a start on no worker that is not MRJOB_NONE */
-    MRJOB_BAD_NETWORK = 9, /* of a plan: no such network */
+    MRJOB_BAD_NETWORK = 9, /* of a plan: no such network, or more than 1,024 splits for the direct one */
     MRJOB_NO_MEMORY = 10   /* malloc gave none */
 };
 
 /* Over which network a plan is made. Either gives a best plan; where several are, they may differ. */
 enum mrjob_network {
     MRJOB_RACKS = 0,  /* with a node for each rack and data centre: the quicker one */
-    MRJOB_DIRECT = 1  /* with an arc from each split to each worker */
+    MRJOB_DIRECT = 1  /* with an arc from each split to each worker: for at most 1,024 splits */
 };
 
 /* ---- what is asked ---- */
@@ -235,13 +236,13 @@ static inline const char *mrjob_status_text(uint32_t status)
     case MRJOB_OK: return "planned, or certified";
     case MRJOB_REFUSED: return "a condition fails";
     case MRJOB_BAD_RACKS: return "too many data centres or racks, or a rack in no data centre";
-    case MRJOB_BAD_WORKERS: return "too many workers, or one in no rack or with too many slots";
+    case MRJOB_BAD_WORKERS: return "too many workers, or one in no rack";
     case MRJOB_BAD_SPLITS: return "too many splits, or one with too many bytes or holders";
     case MRJOB_BAD_BARRED: return "a barred pair of no split or of no worker";
     case MRJOB_BAD_HOLDERS: return "a holder that is no worker, or that a split has twice";
     case MRJOB_BAD_LENGTH: return "not one start and price for each split and one price for each worker";
     case MRJOB_BAD_STARTS: return "a start on no worker";
-    case MRJOB_BAD_NETWORK: return "no such network";
+    case MRJOB_BAD_NETWORK: return "no such network, or more than 1,024 splits for the direct one";
     case MRJOB_NO_MEMORY: return "no memory";
     default: return "no status";
     }

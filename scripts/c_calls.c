@@ -1,5 +1,6 @@
 /* Calls the C library as its header allows: each status, arrays of no elements, each allocation refused in turn, and
- * four threads with small stacks at once. The last line is 'N passed, M failed', and lines before name what failed.
+ * threads with small stacks: four at once, and one that has the most splits planned. The last line is 'N passed, M
+ * failed', and lines before name what failed.
  *
  * It is linked with lib/libmrjob.a and -Wl,--wrap=malloc,--wrap=realloc,--wrap=free -pthread. */
 #include "mrjob.h"
@@ -75,7 +76,7 @@ enum { PLAN_RACKS, PLAN_DIRECT, CHECK };
 struct given {
     uint16_t centre_of[33];
     struct mrjob_worker workers[257];
-    struct mrjob_split splits[1025];
+    struct mrjob_split splits[2];
     uint16_t holders[9];
     struct mrjob_pair barred[1];
     struct mrjob_wave wave;
@@ -185,10 +186,10 @@ static void test_statuses(void)
     make(), given.wave.racks = 33, count_both(MRJOB_BAD_RACKS, "33 racks");
     make(), given.centre_of[1] = 1, count_both(MRJOB_BAD_RACKS, "a rack in no data centre");
     given.network = 7, given.starts_len = 1, given.starts[0] = 7, given.holders[0] = 7, given.barred[0].worker = 7;
-    given.splits[0].bytes = UINT64_MAX, given.workers[0].free = 17;
+    given.splits[0].bytes = UINT64_MAX, given.workers[0].rack = 7;
     count_both(MRJOB_BAD_RACKS, "of many faults that of the racks");
     given.centre_of[1] = 0, count_both(MRJOB_BAD_WORKERS, "of many faults that of the workers");
-    given.workers[0].free = 1, count_both(MRJOB_BAD_SPLITS, "of many faults that of the splits");
+    given.workers[0].rack = 0, count_both(MRJOB_BAD_SPLITS, "of many faults that of the splits");
     given.splits[0].bytes = 1, count_both(MRJOB_BAD_BARRED, "of many faults that of the barred pairs");
     given.barred[0].worker = 1, count_both(MRJOB_BAD_HOLDERS, "of many faults that of the holders");
     given.holders[0] = 0, count_both(MRJOB_BAD_LENGTH, "of many faults that of the lengths");
@@ -196,7 +197,6 @@ static void test_statuses(void)
     count(answers(PLAN_RACKS, MRJOB_BAD_NETWORK) && answers(CHECK, MRJOB_BAD_STARTS), "and then the last ones");
     make(), given.wave.workers_len = 257, count_both(MRJOB_BAD_WORKERS, "257 workers");
     make(), given.workers[1].rack = 2, count_both(MRJOB_BAD_WORKERS, "a worker in no rack");
-    make(), given.wave.splits_len = 1025, count_both(MRJOB_BAD_SPLITS, "1,025 splits");
     make(), given.splits[1].bytes = MRJOB_MAX_BYTES + 1, count_both(MRJOB_BAD_SPLITS, "a split of too many bytes");
     make(), given.wave.holders_len = 9, given.splits[0].holder_count = 9;
     count_both(MRJOB_BAD_SPLITS, "a split of 9 holders");
@@ -225,7 +225,7 @@ static void test_places(void)
     make(), given.centre_of[1] = 1, count_place(MRJOB_BAD_RACKS, 1, "the place of a rack in no data centre");
     given.centre_of[0] = 1, count_place(MRJOB_BAD_RACKS, 0, "the first of two racks");
     make(), given.workers[1].rack = 2, count_place(MRJOB_BAD_WORKERS, 1, "the place of a worker in no rack");
-    given.workers[0].free = 17, count_place(MRJOB_BAD_WORKERS, 0, "the first of two workers");
+    given.workers[0].rack = 2, count_place(MRJOB_BAD_WORKERS, 0, "the first of two workers");
     make(), given.splits[1].bytes = MRJOB_MAX_BYTES + 1, count_place(MRJOB_BAD_SPLITS, 1, "the place of a great split");
     given.splits[0].holder_count = 9, count_place(MRJOB_BAD_SPLITS, 0, "the first of two splits");
     make(), given.splits[1].first_holder = UINT32_MAX, count_place(MRJOB_BAD_SPLITS, 1, "of a holder past the last");
@@ -252,7 +252,9 @@ static void test_texts(void)
         count(holds, "a status has words of its own");
     }
     count(!strcmp(mrjob_status_text(MRJOB_NO_MEMORY + 1), "no status"), "a number that is no status");
-    count(!strcmp(mrjob_status_text(MRJOB_BAD_NETWORK), "no such network"), "the words of a network that is none");
+    count(!strcmp(mrjob_status_text(MRJOB_BAD_NETWORK),
+                  "no such network, or more than 1,024 splits for the direct one"),
+          "the words of a network that is none");
 }
 
 /* Arrays of no elements, by null and by an address that is not aligned, in a wave of nothing and of splits alone. */
@@ -351,6 +353,22 @@ static void *run(void *given_output)
     return output;
 }
 
+/* Makes so many threads with small stacks, and joins those that were made. */
+static void count_threads(int most, void *(*body)(void *), const char *name)
+{
+    pthread_t threads[THREADS];
+    pthread_attr_t stack;
+    int made = 0;
+    if (!pthread_attr_init(&stack) && !pthread_attr_setstacksize(&stack, STACK)) {
+        while (made < most && !pthread_create(&threads[made], &stack, body, &outputs[made])) made++;
+    }
+    count(made == most, "threads with small stacks are made");
+    for (int t = 0; t < made; t++) {
+        void *answer = NULL;
+        count(!pthread_join(threads[t], &answer) && answer, name);
+    }
+}
+
 static void test_threads(void)
 {
     static uint16_t centre_of[RACKS], holders[3 * SPLITS];
@@ -371,18 +389,77 @@ static void test_threads(void)
     large.splits = splits, large.splits_len = SPLITS;
     large.holders = holders, large.holders_len = 3 * SPLITS;
     count(plans(MRJOB_RACKS, &first), "a large wave is planned");
-    pthread_t threads[THREADS];
-    pthread_attr_t stack;
-    int made = !pthread_attr_init(&stack) && !pthread_attr_setstacksize(&stack, STACK);
-    for (int t = 0; t < THREADS; t++) made &= !pthread_create(&threads[t], &stack, run, &outputs[t]);
-    if (!made) {
-        count(0, "threads with small stacks are made");
-        return;
+    count_threads(THREADS, run, "a thread is answered as one alone");
+}
+
+/* ---- the most splits ---- */
+
+static struct mrjob_split many[MRJOB_MAX_SPLITS + 1];
+static uint16_t many_starts[MRJOB_MAX_SPLITS];
+static uint64_t many_prices[MRJOB_MAX_SPLITS];
+
+/* So many splits of one byte lie on the first of two workers in a rack: it starts 255 at no cost, and the other one 255
+ * at two bytes each. One split may not start on the other. */
+static struct mrjob_wave wave_of(size_t splits, uint16_t barred)
+{
+    static const struct mrjob_worker workers[] = {{0, MRJOB_MAX_SLOTS, 1}, {0, MRJOB_MAX_SLOTS, 1}};
+    static const uint16_t centre_of[1], holders[1];
+    static struct mrjob_pair pair;
+    pair.split = barred, pair.worker = 1;
+    return (struct mrjob_wave){1, centre_of, 1, workers, 2, many, splits, holders, 1, &pair, 1};
+}
+
+/* What a plan answers, and a check of its answer where it is one; both have to agree. */
+static uint32_t answered(const struct mrjob_wave *wave, uint32_t network)
+{
+    const size_t most = wave->splits_len < MRJOB_MAX_SPLITS ? wave->splits_len : MRJOB_MAX_SPLITS;
+    uint64_t worker_prices[2] = {7, 7};
+    struct mrjob_total total = {7, 7};
+    struct mrjob_verdict verdict = {7, 7, 7, 7, 7};
+    const uint32_t status = mrjob_plan(wave, network, many_starts, most, many_prices, most, worker_prices, 2, &total);
+    const uint32_t checked = mrjob_check(wave, many_starts, most, many_prices, most, worker_prices, 2, &verdict);
+    if (status != MRJOB_OK) {
+        const int is_kept = worker_prices[0] == 7 && worker_prices[1] == 7 && total.count == 7 && total.cost == 7;
+        return is_kept && (status == checked || status == MRJOB_BAD_NETWORK) ? status : MRJOB_OK;
     }
-    for (int t = 0; t < THREADS; t++) {
-        void *answer = NULL;
-        count(!pthread_join(threads[t], &answer) && answer, "a thread is answered as one alone");
-    }
+    const int is_best = total.count == 2 * MRJOB_MAX_SLOTS && total.cost == 2 * MRJOB_MAX_SLOTS;
+    const int is_same = verdict.count == total.count && verdict.cost == total.cost;
+    return checked == MRJOB_OK && is_best && is_same ? MRJOB_OK : MRJOB_REFUSED;
+}
+
+/* The last that is taken, and the first that is refused. */
+static void *take_most(void *output)
+{
+    static const struct mrjob_split split = {1, 0, 1, 1};
+    const size_t most = MRJOB_MAX_SPLITS, direct = MRJOB_MAX_DIRECT_SPLITS;
+    for (size_t s = 0; s <= most; s++) many[s] = split;
+    struct mrjob_wave wave = wave_of(most, (uint16_t)(most - 1));
+    count(answered(&wave, MRJOB_RACKS) == MRJOB_OK, "65,535 splits are planned, and the last is barred");
+    uint64_t worker_prices[2] = {0, 0};
+    struct mrjob_verdict verdict;
+    memset(many_prices, 0, sizeof many_prices);
+    many_prices[most - 1] = UINT64_MAX;
+    count(mrjob_check(&wave, many_starts, most, many_prices, most, worker_prices, 2, &verdict) == MRJOB_REFUSED &&
+              verdict.condition == 4 && verdict.split == most - 1 && verdict.worker == MRJOB_NONE,
+          "a price of the last split is refused by its number");
+    many[most - 1].bytes = UINT64_MAX;
+    count(answered(&wave, MRJOB_RACKS) == MRJOB_BAD_SPLITS && answered(&wave, MRJOB_DIRECT) == MRJOB_BAD_SPLITS &&
+              mrjob_unfit_place(&wave, many_starts, most, MRJOB_BAD_SPLITS) == most - 1,
+          "the place of a great split that is the last");
+    many[most - 1] = split;
+    count(answered(&wave, MRJOB_DIRECT) == MRJOB_BAD_NETWORK, "65,535 splits are too many for the direct network");
+    wave = wave_of(most, MRJOB_NONE);
+    count(answered(&wave, MRJOB_RACKS) == MRJOB_BAD_BARRED, "a barred pair of the split that is none");
+    wave = wave_of(most + 1, 0);
+    count(answered(&wave, MRJOB_RACKS) == MRJOB_BAD_SPLITS && answered(&wave, MRJOB_DIRECT) == MRJOB_BAD_SPLITS &&
+              mrjob_unfit_place(&wave, many_starts, most, MRJOB_BAD_SPLITS) == MRJOB_NOWHERE,
+          "65,536 splits");
+    wave = wave_of(direct, 0);
+    count(answered(&wave, MRJOB_DIRECT) == MRJOB_OK, "1,024 splits are planned over the direct network");
+    wave = wave_of(direct + 1, 0);
+    count(answered(&wave, MRJOB_DIRECT) == MRJOB_BAD_NETWORK, "1,025 splits for the direct network");
+    count(answered(&wave, MRJOB_RACKS) == MRJOB_OK, "1,025 splits over racks");
+    return output;
 }
 
 int main(void)
@@ -397,6 +474,7 @@ int main(void)
         for (int which = PLAN_RACKS; which <= CHECK; which++) test_refusals(which);
     }
     test_threads();
+    count_threads(1, take_most, "the most is taken in a small stack");
     printf("%d passed, %d failed\n", passed, failed);
     return failed != 0;
 }

@@ -5,7 +5,7 @@
 
 Made problems, the same in each run, are planned and checked by names and by arrays, over both networks: count and
 cost have to be those of reference_check.py and of `mrjob plan`, and a verdict with its place those of the reference
-and of `mrjob check`, of the same problem as text. Then waves of up to 1,024 splits, four threads at once, and the
+and of `mrjob check`, of the same problem as text. Then waves of up to 65,535 splits, four threads at once, and the
 names that the library shows. python_package.py tries what the package adds. The last line is 'N passed, M failed'.
 """
 import ctypes
@@ -14,6 +14,7 @@ import random
 import subprocess
 import sys
 from concurrent.futures import ThreadPoolExecutor
+from itertools import product
 from pathlib import Path
 
 sys.dont_write_bytecode = True
@@ -25,8 +26,11 @@ import reference_text
 from mrjob_plan import Cluster, Network, Prices, Split, Worker, arrays, check, library, plan
 
 COUNT = 2000
-# How many splits the larger waves have, up to the most.
-MANY_SPLITS = [1000, *range(1010, 1025)]
+# How many splits the larger waves have, up to the most that a network takes.
+MANY_SPLITS = {
+    Network.RACKS: [1000, *range(1010, 1026), 4095, 4096, 4097, 32_768, 65_534, 65_535],
+    Network.DIRECT: [1000, *range(1010, 1025)],
+}
 PROGRAM = sys.argv[1] if len(sys.argv) > 1 else str(ROOT / "bin/mrjob")
 
 
@@ -139,14 +143,15 @@ def agrees():
 
 
 def many():
-    """Splits of one byte on one worker fill its 16 slots at no cost, and the 16 next door at two bytes each."""
-    for splits in MANY_SPLITS:
-        workers = [(0, 16, 1), (0, 16, 1)]
-        wave = arrays.Wave(1, [0], workers, [(1, s, 1, 1) for s in range(splits)], [0] * splits, [])
-        for network in Network:
+    """Splits of one byte on one worker fill its slots at no cost, and as many next door at two bytes each."""
+    for network, slots in product(Network, (16, 255)):
+        for splits in MANY_SPLITS[network]:
+            workers = [(0, slots, 1), (0, slots, 1)]
+            wave = arrays.Wave(1, [0], workers, [(1, s, 1, 1) for s in range(splits)], [0] * splits, [])
             best = arrays.plan(wave, network)
             verdict = arrays.check(wave, best.starts, best.split_prices, best.worker_prices)
-            if [(it.count, it.cost) for it in (best, verdict)] != [(32, 32)] * 2 or verdict.condition is not None:
+            totals = [(it.count, it.cost) for it in (best, verdict)]
+            if totals != [(2 * slots, 2 * slots)] * 2 or verdict.condition is not None:
                 return print(f"{splits} splits: {best.count} start at {best.cost}, and a check says {verdict}")
     return True
 

@@ -86,10 +86,11 @@ UNFIT_WAVES = [
     ({"workers": [(0, 1, 1)] * 257}, Status.BAD_WORKERS, "257 workers, at most 256"),
     ({"workers": [(0, 1, 1), (1, 1, 1)]}, Status.BAD_WORKERS, "worker 1: there is no rack 1 among 1"),
     ({"workers": [(2**16, 1, 1)]}, Status.BAD_WORKERS, "worker 0: there is no rack 65,536 among 1"),
-    ({"workers": [(0, 17, 1)]}, Status.BAD_WORKERS, "worker 0: 17 free slots, at most 16"),
-    ({"workers": [(0, 256, 1)]}, Status.BAD_WORKERS, "worker 0: 256 free slots, at most 16"),
+    ({"workers": [(0, 256, 1)]}, Status.BAD_WORKERS, "worker 0: 256 free slots, at most 255"),
+    ({"workers": [(0, 2**64, 1)]}, Status.BAD_WORKERS, f"worker 0: {2**64:,} free slots, at most 255"),
     ({"workers": [(0, -1, 1)]}, Status.BAD_WORKERS, "worker 0: -1 free slots, at least 0"),
-    ({"splits": [(0, 0, 0, 0)] * 1025}, Status.BAD_SPLITS, "1,025 splits, at most 1,024"),
+    ({"workers": [(0, 1, 2**8), (0, 256, -1)]}, Status.BAD_WORKERS, "worker 1: 256 free slots, at most 255"),
+    ({"splits": [(0, 0, 0, 0)] * 65_536}, Status.BAD_SPLITS, "65,536 splits, at most 65,535"),
     ({"splits": [(2**33 + 1, 0, 1, 1)]}, Status.BAD_SPLITS, "split 0: 8,589,934,593 bytes, at most 8,589,934,592"),
     ({"splits": [(2**64, 0, 1, 1)]}, Status.BAD_SPLITS, f"split 0: {2**64:,} bytes, at most 8,589,934,592"),
     ({"splits": [(-1, 0, 1, 1)]}, Status.BAD_SPLITS, "split 0: -1 bytes, at least 0"),
@@ -99,15 +100,35 @@ UNFIT_WAVES = [
      "split 0: holders from 4,294,967,296 up to 4,294,967,297, and there are 1"),
     ({"splits": [(10, 0, 2**16, 1)]}, Status.BAD_SPLITS, "split 0: 65,536 holders, at most 8"),
     ({"barred": [(0, 0), (2**16, 0)]}, Status.BAD_BARRED, "barred pair 1: there is no split 65,536 among 1"),
+    ({"barred": [(-1, 0)]}, Status.BAD_BARRED, "barred pair 0: there is no split -1 among 1"),
     ({"barred": [(0, 1)]}, Status.BAD_BARRED, "barred pair 0: there is no worker 1 among 1"),
+    ({"barred": [(0, 2**16)]}, Status.BAD_BARRED, "barred pair 0: there is no worker 65,536 among 1"),
+    ({"splits": [(0, 0, 0, 0)] * 65_535, "barred": [(65_534, 0), (65_535, 0)]}, Status.BAD_BARRED,
+     "barred pair 1: there is no split 65,535 among 65,535"),
+    ({"splits": [(0, 0, 0, 0)] * 65_535, "barred": [(65_534, 0), (65_536, 0)]}, Status.BAD_BARRED,
+     "barred pair 1: there is no split 65,536 among 65,535"),
     ({"holders": [2**16]}, Status.BAD_HOLDERS, "split 0, holder: there is no worker 65,536 among 1"),
     ({"holders": [0, 0], "splits": [(1, 0, 2, 1)]}, Status.BAD_HOLDERS, "split 0: worker 0 holds it twice"),
 ]
 WAVE = arrays.Wave(**FIT)
+
+
+def wave_of(splits):
+    """A wave of so many splits of the most bytes, with as many as there may be of all else."""
+    split = (2**33, 0, 8, 2**16)
+    return arrays.Wave(8, [7] * 32, [(31, 255, 2**8)] * 256, [split] * splits, range(8), [(splits - 1, 255)])
+
+
 ONE = (Cluster([Worker(0)]), [Split(10, [0])])
 ZERO = Prices([0], [0])
 UNFIT_CALLS = [
     (lambda: arrays.plan(WAVE, 2), Status.BAD_NETWORK, "network 2 is neither 0, over racks, nor 1, direct"),
+    (lambda: arrays.plan(wave_of(1025), 2), Status.BAD_NETWORK, "network 2 is neither 0, over racks, nor 1, direct"),
+    (lambda: arrays.plan(wave_of(1025), 1), Status.BAD_NETWORK, "1,025 splits for the direct network, at most 1,024"),
+    (lambda: arrays.plan(wave_of(65_535), 1), Status.BAD_NETWORK,
+     "65,535 splits for the direct network, at most 1,024"),
+    (lambda: plan(CLUSTER, [Split(1)] * 1025, Network.DIRECT), Status.BAD_NETWORK,
+     "1,025 splits for the direct network, at most 1,024"),
     (lambda: arrays.check(WAVE, [1], [0], [0]), Status.BAD_STARTS, "split 0: there is no worker 1 among 1"),
     (lambda: arrays.check(WAVE, [2**16], [0], [0]), Status.BAD_STARTS, "split 0: there is no worker 65,536 among 1"),
     (lambda: arrays.check(WAVE, [-1], [0], [0]), Status.BAD_STARTS, "split 0: there is no worker -1 among 1"),
@@ -117,7 +138,8 @@ UNFIT_CALLS = [
     (lambda: arrays.plan(WAVE, starts=array("H", [0, 0])), Status.BAD_LENGTH, "2 starts, and 1 splits"),
     (lambda: plan(Cluster({"a": Worker("r")}, {"q": "c"}), {}), Status.BAD_WORKERS, "worker 'a': rack 'r' is no rack"),
     (lambda: plan(Cluster([], ["c"], ["d"]), []), Status.BAD_RACKS, "rack 0: centre 'c' is no data centre"),
-    (lambda: plan(Cluster({"a": Worker("r", 17)}), {}), Status.BAD_WORKERS, "worker 'a': 17 free slots, at most 16"),
+    (lambda: plan(Cluster({"a": Worker("r", 256)}), {}), Status.BAD_WORKERS,
+     "worker 'a': 256 free slots, at most 255"),
     (lambda: plan(CLUSTER, {"blk_7": Split(2**34)}), Status.BAD_SPLITS,
      "split 'blk_7': 17,179,869,184 bytes, at most 8,589,934,592"),
     (lambda: plan(CLUSTER, {"s": Split(1, ["a"] * 9)}), Status.BAD_SPLITS, "split 's': 9 holders, at most 8"),
@@ -150,9 +172,28 @@ def statuses():
         for call in (lambda: arrays.plan(wave), lambda: arrays.check(wave, starts, prices, slots)):
             pairs.append((refused(call, Unfit), Unfit(status, words)))
     pairs += [(refused(call, Unfit), Unfit(status, words)) for call, status, words in UNFIT_CALLS]
-    bounds = re.findall(r"^#define MRJOB_(MAX_\w+|NONE|VERSION) (\d+)", (ROOT / "include/mrjob.h").read_text(), re.M)
-    pairs += [(getattr(library, name), int(value)) for name, value in bounds]
-    return differences([(str(said), str(wanted)) for said, wanted in pairs] + pairs) and len(bounds) == 9
+    told = re.findall(r"^#define MRJOB_(MAX_\w+|NONE|VERSION) (\d+)", (ROOT / "include/mrjob.h").read_text(), re.M)
+    pairs += [(getattr(library, name), int(value)) for name, value in told]
+    return differences([(str(said), str(wanted)) for said, wanted in pairs] + pairs) and len(told) == 10
+
+
+def bounds():
+    """The most of all is planned: the holders start what they have slots for, and the other workers in their rack the
+    rest, two steps away."""
+    pairs = []
+    for splits, network in ((65_535, Network.RACKS), (1024, Network.RACKS), (1024, Network.DIRECT)):
+        wave = wave_of(splits)
+        best = arrays.plan(wave, network)
+        started = min(splits, 256 * 255)
+        wanted = (started, max(0, started - 8 * 255) * 2 * 2**33)
+        pairs += [((best.count, best.cost), wanted), (best.starts[splits - 1] == 255, False)]
+        pairs += [(arrays.check(wave, best.starts, best.split_prices, best.worker_prices).condition, None)]
+        unpriced = array("Q", best.split_prices)
+        unpriced[-1] = 2**64 - 1
+        verdict = arrays.check(wave, best.starts, unpriced, best.worker_prices)
+        pairs += [((verdict.condition, verdict.split, verdict.worker), (4, splits - 1, None))]
+    names = plan(CLUSTER, {f"s{it}": Split(1, ["a"]) for it in range(65_535)})
+    return differences([*pairs, ((names.count, names.cost), (2, 2))])
 
 
 FORMS = [
@@ -514,7 +555,7 @@ def installed():
         return differences([*pairs, (said.count("\n"), 2)])
 
 
-TESTS = [statuses, forms, by_value, verdicts, pools, new_arrays, numpy_arrays, documents, types, wheel]
+TESTS = [statuses, bounds, forms, by_value, verdicts, pools, new_arrays, numpy_arrays, documents, types, wheel]
 TESTS += [another_checkout, installed]
 
 

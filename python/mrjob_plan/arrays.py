@@ -26,12 +26,15 @@ WORKER = [("rack", "<u2"), ("free", "|u1"), ("live", "|u1")]
 SPLIT = [("bytes", "<u8"), ("first_holder", "<u4"), ("holder_count", "<u2"), ("pending", "<u2")]
 PAIR = [("split", "<u2"), ("worker", "<u2")]
 
+# The fields that say yes or no: any number but 0 says yes.
+ANSWERS = ("live", "pending")
+
 # What the module array calls plain numbers.
 CODES = {c_uint16: "H", c_uint64: "Q"}
 
 
 class Network(IntEnum):
-    """Over which network a plan is made: either gives a best plan, RACKS in less time."""
+    """Over which network a plan is made: either gives a best plan, RACKS in less time; DIRECT takes 1,024 splits."""
 
     RACKS = 0
     DIRECT = 1
@@ -93,10 +96,20 @@ def within(end: int, value: int) -> int:
     return value if 0 <= value < end else end - 2
 
 
+def fitted(ends: Dict[str, int], row: Tuple[int, ...]) -> Sequence[int]:
+    """The numbers of a row, each below the end of its field. Where one is not, all of them are past their bounds: the
+    last but one alone would not be, since 254 slots are few enough and 65,534 may be a split."""
+    if min(row) >= 0 and all(map(operator.lt, row, ends.values())):
+        return row
+    numbers = [int(it != 0) if name in ANSWERS else it for name, it in zip(ends, row)]
+    fits = min(numbers) >= 0 and all(map(operator.lt, numbers, ends.values()))
+    return numbers if fits else [end - 2 for end in ends.values()]
+
+
 def copied(kind: Any, given: List[Any]) -> "ctypes.Array[Any]":
-    ends = [256 ** sizeof(it[1]) for it in getattr(kind, "_fields_", ())]
+    ends = {it[0]: 256 ** sizeof(it[1]) for it in getattr(kind, "_fields_", ())}
     if ends:
-        elements = [kind(*[it if 0 <= it < end else end - 2 for it, end in zip(row, ends)]) for row in given]
+        elements = [kind(*fitted(ends, row)) for row in given]
     else:
         elements = [within(256 ** sizeof(kind), it) for it in given]
     memory: "ctypes.Array[Any]" = (kind * len(given))(*elements)

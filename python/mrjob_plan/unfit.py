@@ -2,7 +2,8 @@
 from typing import TYPE_CHECKING, Callable, Dict, Iterable, Iterator, Mapping
 
 from .faults import WORDS, NoMemory, Status, Unfit
-from .library import MAX_BYTES, MAX_CENTRES, MAX_HOLDERS, MAX_RACKS, MAX_SLOTS, MAX_SPLITS, MAX_WORKERS, NONE
+from .library import MAX_BYTES, MAX_CENTRES, MAX_DIRECT_SPLITS, MAX_HOLDERS, MAX_RACKS, MAX_SLOTS, MAX_SPLITS
+from .library import MAX_WORKERS, NONE
 
 if TYPE_CHECKING:
     from .arrays import Elements, Wave
@@ -91,6 +92,12 @@ def of_starts(wave: "Wave", starts: "Elements") -> Found:
             yield from at(wave.name("split", split), absent("worker", worker, len(wave.workers)))
 
 
+def of_network(wave: "Wave", network: int) -> Found:
+    if network == 1:
+        yield from past(len(wave.splits), MAX_DIRECT_SPLITS, "splits for the direct network")
+    yield f"network {network:,} is neither 0, over racks, nor 1, direct"
+
+
 def raise_for(status: int, wave: "Wave", plan: Mapping[str, "Elements"], network: int = 0) -> None:
     """Raises what a status means that is no answer, with the first that is not fit of what the call was given."""
     if status == Status.NO_MEMORY:
@@ -101,7 +108,7 @@ def raise_for(status: int, wave: "Wave", plan: Mapping[str, "Elements"], network
     if status in FINDERS:
         found = FINDERS[status](wave)
     elif status == Status.BAD_NETWORK:
-        found = iter([f"network {network:,} is neither 0, over racks, nor 1, direct"])
+        found = of_network(wave, network)
     else:
         found = of_lengths(wave, plan) if status == Status.BAD_LENGTH else of_starts(wave, plan["starts"])
     raise Unfit(status, next(found, WORDS[status]))

@@ -46,7 +46,8 @@ pub struct Wave<'a> {
     pub barred: &'a [Pair],
 }
 
-/// Over which network a plan is made. Either gives a best plan, `Racks` in less time.
+/// Over which network a plan is made. Either gives a best plan, `Racks` in less time. `Direct` takes at most
+/// 1,024 splits.
 #[derive(Clone, Copy, Debug, PartialEq, Eq)]
 pub enum Network {
     Racks = 0,
@@ -93,7 +94,7 @@ impl Display for Fault {
     fn fmt(&self, f: &mut Formatter<'_>) -> fmt::Result {
         f.write_str(match self {
             Fault::Racks => "there are too many data centres or racks, or a rack is in no data centre",
-            Fault::Workers => "there are too many workers, or one is in no rack or has too many slots",
+            Fault::Workers => "there are too many workers, or one is in no rack",
             Fault::Splits => {
                 "there are too many splits, or one has too many bytes or holders, or some past the last"
             }
@@ -101,7 +102,7 @@ impl Display for Fault {
             Fault::Holders => "a holder is no worker, or stands twice at one split",
             Fault::Length => "there is not one start and price for each split and one price for each worker",
             Fault::Starts => "a split starts on no worker",
-            Fault::Network => "there is no such network",
+            Fault::Network => "there is no such network, or more than 1,024 splits for the direct one",
             Fault::Memory => "there is no memory",
         })
     }
