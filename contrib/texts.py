@@ -6,10 +6,12 @@ import re
 
 NAME, NUMBER = re.compile(r"[A-Za-z][A-Za-z0-9._-]{0,31}"), re.compile(r"0|[1-9][0-9]*")
 LONG_NAME = re.compile(r"[A-Za-z0-9._:/-]{1,64}")
-MOST = {"centre": 8, "rack": 32, "worker": 256, "split": 1024}
+MOST = {"centre": 8, "rack": 32, "worker": 256, "split": 131_072}
+# What is less in texts of an older version than 3.
+MOST_SPLITS, MOST_SLOTS, MOST_BYTES = 1024, 16, 67_108_864
 # The places of each line: `+KIND` declares a name, KIND uses one, LEAST-GREATEST is a number, and a `*` says any count.
 HEAD = {
-    "centre": "+centre", "rack": "+rack", "worker": "+worker rack 0-16", "split": "+split 0-8589934592 worker*",
+    "centre": "+centre", "rack": "+rack", "worker": "+worker rack 0-255", "split": "+split 0-8589934592 worker*",
     "barred": "split worker", "dead": "worker", "busy": "split",
 }
 END = {"end": ""}
@@ -74,13 +76,15 @@ class Text:
         if not (NAME if self.version < 3 else LONG_NAME).fullmatch(word):
             return [2]
         if place[0] == "+":
-            return [4] * (word in self.kinds) + [6] * (len(self.numbers[place[1:]]) == MOST[place[1:]])
+            most = MOST_SPLITS if place == "+split" and self.version < 3 else MOST[place[1:]]
+            return [4] * (word in self.kinds) + [6] * (len(self.numbers[place[1:]]) == most)
         return [] if self.kinds.get(word) in (["split", "worker"] if place == "priced" else [place]) else [3]
 
     def again(self, keyword, words):
         """What a line says too often, or `end` leaves out."""
         found = [4] if (keyword, *words) in self.marks else []
-        if keyword == "split" and self.version < 3 and int(words[1]) > 67_108_864:
+        older = {"split": (1, MOST_BYTES), "worker": (2, MOST_SLOTS)}.get(keyword)
+        if older and self.version < 3 and int(words[older[0]]) > older[1]:
             found.append(5)
         if keyword == "split":
             found += [6] * (len(words) > 10) + [8] * (len(set(words[2:])) < len(words[2:]))
@@ -117,7 +121,7 @@ class Text:
 
 def read(data, has_plan):
     """What a problem's text declares, or its least fault."""
-    if len(data) > 16_777_216:
+    if len(data) > (268_435_456 if data.startswith(b"problem 3\n") else 16_777_216):
         raise Fault("line 0: fault 11")
     *lines, rest = data.decode("latin-1").split("\n")
     text = Text(has_plan)

@@ -165,13 +165,13 @@ def faults(program: str, count: Count) -> None:
             said = str(why)
         count.holds(f"there may not be {says}", f"there are {says}" in said, said)
     wide = wave_of(
-        {f"w{it}": Place("r") for it in range(9)}, {"w0": 17, "w1": 1},
+        {f"w{it}": Place("r") for it in range(9)}, {"w0": 256, "w1": 1},
         {f"s{it}": Split(1 << 34, [f"w{at}" for at in range(9)], []) for it in range(1025)},
     )
     shape = len(wide.splits), max(len(it.holders) for it in wide.splits.values()), wide.slots["w0"]
     plan = planner_of(f"{program} plan", True).plan(wide)
-    count.holds("a wave takes 1,024 blocks, 8 holders and 16 slots", shape == (1024, 8, 16), shape)
-    count.holds("blocks of 16 GiB are planned in units of 2 bytes", (len(plan.starts), plan.unit) == (17, 2), plan.unit)
+    count.holds("a wave takes 1,024 blocks, 8 holders and 255 slots", shape == (1024, 8, 255), shape)
+    count.holds("blocks of 16 GiB are planned in units of 2 bytes", (len(plan.starts), plan.unit) == (256, 2), plan.unit)
 
 
 def placing(count: Count) -> None:

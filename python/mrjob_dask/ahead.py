@@ -9,11 +9,12 @@ from __future__ import annotations
 from collections import Counter, defaultdict
 from typing import Mapping, Sequence
 
-from .planner import SLOTS, Planner, Split, Wave, distance, nearest
+from .planner import Planner, Split, Wave, distance, nearest
 
 # Of the mean time of a call: so much later than when all splits could be done may a place still end, and for so long at
 # least is a running call taken to go on.
 SLACK = LEAST = 0.1
+PLACES = 16  # of the queue of a worker with fewer free slots, at most
 WEIGHT = 4  # so many calls of the mean time are counted for a worker beside its own
 
 
@@ -96,7 +97,7 @@ class Queues:
         for worker, free in wave.slots.items():
             each = self.pace.mean_on(worker, mean)
             begins = [0.0] * free + [max(abs(each - it), LEAST * each) for it in running.get(worker, ())]
-            ends[worker] = sorted(begin + nth * each for begin in begins for nth in range(1, SLOTS + 1))[:SLOTS]
+            ends[worker] = sorted(begin + nth * each for begin in begins for nth in range(1, PLACES + 1))[:PLACES]
         whole = sorted(it for its in ends.values() for it in its)
         last = whole[min(len(whole), len(wave.splits)) - 1] + SLACK * mean
         return {worker: max(free, sum(it <= last for it in ends[worker])) for worker, free in wave.slots.items()}
