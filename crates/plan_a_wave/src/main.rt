@@ -48,11 +48,12 @@ fn split(alloc: Global, bytes: u64) -> Option<SplitLine> {
 }
 
 // Two splits, that both lie on the first worker.
-fn splits(alloc: Global) -> Option<Vec<SplitLine>> {
+fn splits(alloc: Global) -> Option<Vec<SplitLine>>
+    ensures { IfSome result (λ splits. length splits.items ≡ 2) }
+{
     let mut splits = Vec::new(alloc);
-    for bytes in [10, 20] {
-        splits.push(split(alloc, bytes)?).ok()?;
-    }
+    splits.push(split(alloc, 10)?).ok()?;
+    splits.push(split(alloc, 20)?).ok()?;
     Some(splits)
 }
 

@@ -160,10 +160,10 @@ fn long_problem(rt: &impl Abort, alloc: Global) -> Problem {
     made(rt, alloc, &[(0, true, 1)], &[split; 300], &[]).expect(rt, "no problem")
 }
 
-fn long_prices(rt: &impl Abort, alloc: Global, first: u16) -> Prices {
+fn long_prices(rt: &impl Abort, alloc: Global, first: u32) -> Prices {
     let mut splits = [0; 300];
     for split in 0..300usize {
-        if split < usize::from(first) {
+        if split < first as usize {
             splits[split] = 1201;
         }
     }
@@ -174,7 +174,7 @@ fn answers_to_first<R: Abort + Threads + Sync>(
     rt: &R,
     alloc: Global,
     problem: &Problem,
-    first: u16,
+    first: u32,
 ) -> Answers {
     let plan = plan_of(rt, alloc, &[None; 300], 1);
     let prices = long_prices(rt, alloc, first);
