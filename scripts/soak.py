@@ -55,8 +55,8 @@ class Sizes:
     """How much is run, of each kind."""
 
     def __init__(self, is_short):
-        # (the first 500 made jobs are a test, which the gate has run)
-        self.gates = 0 if is_short else 10_000
+        # (the first 100 made jobs are also a test, whose time is limited)
+        self.gates = 500 if is_short else 10_000
         self.crowded = 0 if is_short else 300
         self.held = 100 if is_short else 1_000
         self.jobs = 12 if is_short else 200
@@ -428,8 +428,8 @@ def main(words):
     sizes = Sizes("--short" in words)
     named = [word for word in words if word != "--short"]
     program = os.path.abspath(named[0]) if named else str(ROOT / "bin/mrjob")
-    parts = [memory, histories, on_one_processor, beside_spinners, long_maps, long_script, kept_waves, limits]
-    parts = [made_gates, *parts] if sizes.gates else parts
+    parts = (made_gates, memory, histories, on_one_processor, beside_spinners)
+    parts += (long_maps, long_script, kept_waves, limits)
     passed = failed = 0
     with ThreadPoolExecutor(len(PROCESSORS)) as pool:
         for part in parts:

@@ -1,6 +1,6 @@
 //! Jobs and gates made of numbers, against an index that is made word by word.
 //!
-//! The seeds are the first 500, or those that the word SEEDS of the environment has, from one to another, as
+//! The seeds are the first 100, or those that the word SEEDS of the environment has, from one to another, as
 //! `SEEDS="1 10000"`. A failure tells its seed, which can be run alone.
 use crate::gates::{Made, drawn};
 use crate::jobs::{SplitRow, job_of};
@@ -287,7 +287,7 @@ fn named_seeds<R: Env + Alloc>(rt: &R) -> Option<(u64, u64)> {
 // Whatever was stopped, held, swept, backed up and ended.
 #[test]
 fn made_jobs_have_no_other_index(rt: HostRuntime) {
-    let (first, last) = named_seeds(&rt).unwrap_or((1, 500));
+    let (first, last) = named_seeds(&rt).unwrap_or((1, 100));
     let mut counted = Counted::default();
     for seed in first..last.saturating_add(1) {
         let sizes = sizes_of(seed);
