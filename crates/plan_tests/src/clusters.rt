@@ -88,14 +88,17 @@ pub fn split_lines(alloc: Global, rows: &[SplitRow<'_>]) -> Option<Vec<SplitLine
     Some(lines)
 }
 
-/// The set of these pairs of a split and a worker.
-pub fn pairs(rt: &impl Abort, alloc: Global, rows: &[(u16, u16)]) -> Option<PairSet> {
-    let mut pairs = PairSet::new(alloc, 1024).ok()?;
-    for (split, worker) in rows {
-        assert!(rt; *split < 1024 && *worker < 256);
-        pairs.put(SplitNo::new(u32::from(*split)), WorkerNo::new(*worker));
+/// The set of these pairs of a split and a worker, where all are in range.
+pub fn pairs(alloc: Global, rows: &[(u16, u16)]) -> Option<PairSet> {
+    let mut barred = PairSet::new(alloc, 1024).ok()?;
+    for s in 0..rows.len() {
+        let (split, worker) = rows[s];
+        if split >= 1024 || worker >= 256 {
+            return None;
+        }
+        barred.put(SplitNo::new(u32::from(split)), WorkerNo::new(worker));
     }
-    Some(pairs)
+    Some(barred)
 }
 
 /// What comes of a problem of these rows, in which these pairs of a split and a worker are barred, in two
@@ -122,7 +125,7 @@ pub fn made_in(
     let tree = tree_in(rt, alloc, centres, workers);
     let workers = worker_lines(alloc, workers).expect(rt, "no workers");
     let splits = split_lines(alloc, splits).expect(rt, "no splits");
-    let barred = pairs(rt, alloc, barred).expect(rt, "no pairs");
+    let barred = pairs(alloc, barred).expect(rt, "no pairs");
     assert!(rt; workers.len() == tree.workers());
     Problem::new(alloc, tree, workers, splits, barred)
 }

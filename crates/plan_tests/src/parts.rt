@@ -53,7 +53,7 @@ fn a_split_may_start_where_a_worker_may_take_it(rt: HostRuntime) {
         (true, 0, 1, false),
     ] {
         let splits = split_lines(alloc, &[(10, pending, &[holder])]).expect(&rt, "no splits");
-        let barred = pairs(&rt, alloc, &[(0, barred)]).expect(&rt, "no pairs");
+        let barred = pairs(alloc, &[(0, barred)]).expect(&rt, "no pairs");
         let told = first_may_start(&rt, &workers, &barred, &splits);
         assert_eq!(rt; (pending, holder, told), (pending, holder, want));
     }
