@@ -1,7 +1,7 @@
 //! Jobs and gates made of numbers, against an index that is made word by word.
 //!
-//! The seeds are the first 100, or those that the word SEEDS of the environment has, from one to another, as
-//! `SEEDS="1 10000"`. A failure tells its seed, which can be run alone.
+//! The test runs the seeds from 1 to 100. Where the environment has the word SEEDS, as in `SEEDS="1 10000"`, it runs
+//! the seeds from its first number to its second one. A failure tells its seed, which can be run alone.
 use crate::gates::{Made, drawn};
 use crate::jobs::{SplitRow, job_of};
 use crate::told::{Told, add_number, is_done, tell};

@@ -68,8 +68,8 @@ pub(crate) fn fresh(alloc: Global, problem: Problem) -> Result<Engine, AllocErro
     Ok(engine)
 }
 
-/// The engine after it kept up with these workers and these splits, with all splits shipped. The fewer of them
-/// have changed, the less there is to do; where other workers live, all is made anew.
+/// The engine after it kept up with these workers and these splits, with all splits shipped. The fewer workers
+/// and splits have changed, the less there is to do. Where other workers live, the engine is made anew.
 pub(crate) fn kept_up(
     alloc: Global,
     engine: Engine,
@@ -140,8 +140,8 @@ fn put_workers(
     Ok(())
 }
 
-// Loses and frees slots until each worker has as many as its line says: whether it could be done, which it can
-// where the same workers live.
+// Loses and frees slots until each worker has as many as its line says. It answers whether this could be done:
+// it can where the same workers live.
 fn fit_workers(alloc: Global, engine: &mut Engine, workers: &[Worker]) -> Result<bool, AllocError>
     requires workers { length workers.now ≡ length engine.old.wave.workers }
     requires within { All (λ worker. worker.taken ≤ worker.slots) workers.now }

@@ -81,7 +81,7 @@ fn worker_line(row: &WorkerRow) -> WorkerLine
     }
 }
 
-// The set of these pairs, with room for those of so many splits.
+// The set of these barred pairs, with room for the pairs of this number of splits.
 fn build_barred(alloc: Global, splits: usize, pairs: &[PairRow]) -> Result<PairSet, AllocError>
     requires few { splits ≤ MAX_SPLITS }
     requires known { All (IsPairKnown splits MAX_WORKERS) pairs.now }
