@@ -1,11 +1,9 @@
 -- The worker to which a split is copied.
-use Rattle.std.proofs.Common.{◌≡◌, ℕ, ◌+◌, ◌<◌, ◌≤◌, true, false, List, get_or, Option}
-use Rattle.std.proofs.Common.{Some, None, ◌⊎◌, inl, inr, sym, ap, ◌∙◌, subst, arith, replicate}
-use Rattle.std.specs.Prelude.{MatchOption, slice_index}
+use Rattle.std.proofs.Common.{◌≡◌, ℕ, ◌+◌, ◌<◌, ◌≤◌, true, false, Option}
+use Rattle.std.proofs.Common.{Some, None, inl, inr, sym, ap, ◌∙◌, subst, arith, length}
+use Rattle.std.specs.Prelude.{IfSome}
 use Rattle.std.proofs.lemmas.Bool.{cases_lt, false≢true}
-use Rattle.std.proofs.lemmas.List.{get_or-replicate, get_or_past, length-replicate}
-use Rattle.rack_tree.specs.Tree.{Tree}
-use Rattle.block_map.specs.Copies.{Holdings, IsNoWorse, may_hold, replicas_at, replicas_beside, replicas_in}
+use Rattle.block_map.specs.Copies.{Holdings, IsNoWorse, may_hold, replicas_beside}
 use Rattle.block_map.specs.Holdings.{holders_of}
 
 -- the worker to copy to, among those below n
@@ -23,70 +21,62 @@ pub target_skip : (h : Holdings) (s i : ℕ) (best : Option ℕ) → may_hold h 
 target_skip h s i None off none = grind arith
 target_skip h s i (Some to) off best = grind arith
 
--- the next worker may, and the better of the two is kept
-pub target_take : (h : Holdings) (s i r : ℕ) (best : Option ℕ) → may_hold h s i ≡ true →
-    IsTargetBelow h s i best →
-    MatchOption best (r ≡ i) (λ b. ((r ≡ b) × IsNoWorse h s b i) ⊎ ((r ≡ i) × IsNoWorse h s i b)) →
-    IsTargetBelow h s (i + 1) (Some r)
-target_take h s i r None on none is = (
-  omega (arith, is),
-  rw is on,
-  λ w below may. elim (cases_lt w i) [
-    | inl before ↦ absurd (false≢true (sym (none w before) ∙ may))
-    | inr after ↦
-        let same : r ≡ w = omega (arith, is) in
-        inr (ap (replicas_beside h s) same, omega (arith, same))
-  ],
-)
-target_take h s i r (Some b) on best is = elim is [
-  | inl kept ↦ (
-    omega (arith, kept.0, best.0),
-    rw kept.0 best.1,
-    λ w below may. rw kept.0 (elim (cases_lt w i) [
-      | inl before ↦ best.2 w before may
-      | inr after ↦ let same : w ≡ i = omega arith in subst (IsNoWorse h s b) (sym same) kept.1
-    ]),
-  )
-  | inr new ↦ (
-    omega (arith, new.0),
-    rw new.0 on,
-    λ w below may. rw new.0 (elim (cases_lt w i) [
-      | inl before ↦ no_worse-trans h s i b w new.1 (best.2 w before may)
-      | inr after ↦
-          let same : i ≡ w = omega arith in
-          inr (ap (replicas_beside h s) same, omega (arith, same))
-    ]),
-  )
-]
-
 -- of two workers the one with fewer replicas beside it, or the lower one
 fewest_first : (h : Holdings) (s v w : ℕ) → replicas_beside h s v ≤ replicas_beside h s w → v ≤ w →
     IsNoWorse h s v w
 fewest_first h s v w few low = grind arith
 
--- the best so far, unless the next worker has fewer replicas in its rack
-abbrev pub IsLessCrowded : List ℕ → Tree → Option ℕ → ℕ → ℕ → Type 0
-IsLessCrowded counts tree best i r =
-    MatchOption best (r ≡ i) (λ b.
-    ((r ≡ b) × (replicas_at counts tree b ≤ replicas_at counts tree i))
-    ⊎ ((r ≡ i) × (replicas_at counts tree i < replicas_at counts tree b)))
+-- the next worker may, and no better one was found
+pub target_next : (h : Holdings) (s i : ℕ) (best : Option ℕ) → may_hold h s i ≡ true →
+    IsTargetBelow h s i best → IfSome best (λ b. IsNoWorse h s i b) → IsTargetBelow h s (i + 1) (Some i)
+target_next h s i best on below better = (
+  omega arith,
+  on,
+  λ w less may. elim (cases_lt w i) [
+    | inl before ↦ no_worse best below better w before may
+    | inr after ↦
+        let same : i ≡ w = omega (arith, less, after) in
+        inr (ap (replicas_beside h s) same, omega (arith, same))
+  ],
+) where
+  no_worse : (best : Option ℕ) → IsTargetBelow h s i best → IfSome best (λ b. IsNoWorse h s i b) →
+      (w : ℕ) → w < i → may_hold h s w ≡ true → IsNoWorse h s i w
+  no_worse None none better w before may = absurd (false≢true (sym (none w before) ∙ may))
+  no_worse (Some b) best better w before may = no_worse-trans h s i b w better (best.2 w before may)
 
--- the better of the two is found by the numbers of replicas by rack
-pub target_better : (h : Holdings) (s i r : ℕ) (counts : List ℕ) (best : Option ℕ) →
-    ((rack : ℕ) → slice_index counts rack ≡ replicas_in h.tree rack (holders_of h.lists s)) →
-    may_hold h s i ≡ true → IsTargetBelow h s i best → IsLessCrowded counts h.tree best i r →
-    IsTargetBelow h s (i + 1) (Some r)
-target_better h s i r counts None counted on below is = target_take h s i r None on below is
-target_better h s i r counts (Some b) counted on below is =
-    let here : replicas_at counts h.tree i ≡ replicas_beside h s i = counted (slice_index h.tree.rack_of i) in
-    let there : replicas_at counts h.tree b ≡ replicas_beside h s b =
-    counted (slice_index h.tree.rack_of b) in
+-- the next worker is no better
+target_stays : (h : Holdings) (s i b : ℕ) → IsTargetBelow h s i (Some b) → IsNoWorse h s b i →
+    IsTargetBelow h s (i + 1) (Some b)
+target_stays h s i b best no_worse = (
+  omega (arith, best.0),
+  best.1,
+  λ w less may. elim (cases_lt w i) [
+    | inl before ↦ best.2 w before may
+    | inr after ↦
+        let same : i ≡ w = omega (arith, less, after) in
+        subst (IsNoWorse h s b) same no_worse
+  ],
+)
+
+-- n is how many replicas are beside the best worker, and more than any worker has where there is none
+abbrev pub IsFewest : Holdings → ℕ → Option ℕ → ℕ → Type 0
+IsFewest h s None n = length (holders_of h.lists s) < n
+IsFewest h s (Some b) n = n ≡ replicas_beside h s b
+
+-- the next worker has fewer replicas beside it than the best
+pub target_fewer : (h : Holdings) (s i n : ℕ) (best : Option ℕ) → may_hold h s i ≡ true →
+    IsTargetBelow h s i best → IsFewest h s best n → replicas_beside h s i < n →
+    IsTargetBelow h s (i + 1) (Some i)
+target_fewer h s i n None on below most few = target_next h s i None on below tt
+target_fewer h s i n (Some b) on below most few =
+    target_next h s i (Some b) on below (inl (omega (arith, most, few)))
+
+-- and here it has as many or more
+pub target_not_fewer : (h : Holdings) (s i n : ℕ) (best : Option ℕ) → IsTargetBelow h s i best →
+    IsFewest h s best n → n ≤ replicas_beside h s i →
+    replicas_beside h s i ≤ length (holders_of h.lists s) → IsTargetBelow h s (i + 1) best
+target_not_fewer h s i n None below most many few = absurd (omega (arith, most, many, few))
+target_not_fewer h s i n (Some b) below most many few =
     let low : b ≤ i = omega (arith, below.0) in
-    target_take h s i r (Some b) on below (elim is [
-      | inl kept ↦ inl (kept.0, fewest_first h s b i (omega (arith, kept.1, here, there)) low)
-      | inr new ↦ inr (new.0, inl (omega (arith, new.1, here, there)))
-    ])
-
--- the numbers of replicas by rack, before the first holder
-pub counted_none : (n rack : ℕ) → ◌≡◌ {A = ℕ} (get_or (replicate n 0) rack 0) 0
-counted_none n rack = grind (arith, cases_lt, get_or-replicate, get_or_past, length-replicate)
+    let many_beside : replicas_beside h s b ≤ replicas_beside h s i = omega (arith, most, many) in
+    target_stays h s i b below (fewest_first h s b i many_beside low)

@@ -37,10 +37,6 @@ replicas_in tree rack holders = count_by (λ holder. slice_index tree.rack_of ho
 abbrev pub replicas_beside : Holdings → ℕ → ℕ → ℕ
 replicas_beside h s w = replicas_in h.tree (slice_index h.tree.rack_of w) (holders_of h.lists s)
 
--- the number at the worker's rack in a list of numbers by rack
-abbrev pub replicas_at : List ℕ → Tree → ℕ → ℕ
-replicas_at by_rack tree w = slice_index by_rack (slice_index tree.rack_of w)
-
 -- fewer replicas of the split are beside v than beside w, or as many and v is no higher
 abbrev pub IsNoWorse : Holdings → ℕ → ℕ → ℕ → Type 0
 IsNoWorse h s v w =

@@ -1,13 +1,12 @@
-ghost use Rattle.std.specs.Prelude.{◌≡◌, ℕ, ◌<◌, ◌≤◌, ◌⊎◌, true, length, All, Contains, slice_index, IfOk};
-ghost use Rattle.std.specs.Prelude.{IfSome, MatchOption};
+ghost use Rattle.std.specs.Prelude.{◌≡◌, ℕ, ◌<◌, ◌≤◌, true, length, All, Contains, IfOk};
 ghost use Rattle.block_map.specs.Holdings.{holders_of};
 ghost use Rattle.block_map.specs.Copies.{AreCopies, IsCopy, IsNoWorse, WantsCopy, holdings, live_count};
-ghost use Rattle.block_map.specs.Copies.{may_hold, replicas_at, replicas_in};
+ghost use Rattle.block_map.specs.Copies.{may_hold, replicas_in};
 ghost use Rattle.rack_tree.specs.Tree.{Tree};
 
 use crate::{BlockMap, CopyOrder};
-use node_ids::{SplitNo, WorkerNo};
-use rack_tree::{MAX_RACKS, RackTree};
+use node_ids::{RackNo, SplitNo, WorkerNo};
+use rack_tree::RackTree;
 use std::alloc::{AllocError, Global};
 use worker_table::WorkerTable;
 
@@ -52,12 +51,10 @@ fn copy_of(blocks: &BlockMap, table: &WorkerTable, tree: &RackTree, split: Split
     ensures copy { (target : ℕ) → WantsCopy (holdings table.now tree.now blocks.now target) split
         → IsCopy (holdings table.now tree.now blocks.now target) result }
 {
-    let holders = blocks.holders(split);
-    let beside = replicas_by_rack(tree, holders);
     CopyOrder {
         split,
-        from: lowest(holders),
-        to: target_of(blocks, table, tree, &beside, split),
+        from: lowest(blocks.holders(split)),
+        to: target_of(blocks, table, tree, split),
     }
 }
 
@@ -75,18 +72,19 @@ fn lowest(holders: &[WorkerNo]) -> WorkerNo
     lowest
 }
 
-// How many of the holders are in each rack: counted once for a split, so that a copy takes time linear in the
-// workers.
-fn replicas_by_rack(tree: &RackTree, holders: &[WorkerNo]) -> [u8; MAX_RACKS]
-    requires known { All (λ h. h < length tree.now.rack_of) holders.now }
-    requires few { length holders.now ≤ 8 }
-    ensures { (rack : ℕ) → slice_index result rack ≡ replicas_in tree.now rack holders.now }
+// How many of the holders are in a rack.
+fn replicas_in(tree: &RackTree, rack: RackNo, holders: &[WorkerNo]) -> usize
+    requires { All (λ h. h < length tree.now.rack_of) holders.now }
+    ensures count { result ≡ replicas_in tree.now rack holders.now }
+    ensures most { result ≤ length holders.now }
 {
-    let mut beside = [0; MAX_RACKS];
+    let mut count = 0;
     for holder in holders {
-        beside[tree.rack_of(*holder).index()] += 1;
+        if tree.rack_of(*holder) == rack {
+            count += 1;
+        }
     }
-    beside
+    count
 }
 
 fn may_hold(blocks: &BlockMap, table: &WorkerTable, split: SplitNo, worker: WorkerNo) -> bool
@@ -98,55 +96,25 @@ fn may_hold(blocks: &BlockMap, table: &WorkerTable, split: SplitNo, worker: Work
 }
 
 // The live worker without the split in whose rack the fewest of its replicas are, the lowest among equals.
-fn target_of(
-    blocks: &BlockMap,
-    table: &WorkerTable,
-    tree: &RackTree,
-    beside: &[u8; MAX_RACKS],
-    split: SplitNo,
-) -> WorkerNo
+fn target_of(blocks: &BlockMap, table: &WorkerTable, tree: &RackTree, split: SplitNo) -> WorkerNo
     requires racks { length tree.now.rack_of ≡ length table.now.each }
+    requires holders { All (λ h. h < length table.now.each) (holders_of blocks.now split) }
     requires known { split < length blocks.now }
     requires few { length (holders_of blocks.now split) < live_count table.now }
-    requires counts { (rack : ℕ) →
-        slice_index beside.now rack ≡ replicas_in tree.now rack (holders_of blocks.now split) }
     ensures allowed { may_hold (holdings table.now tree.now blocks.now 0) split result ≡ true }
     ensures fewest { (w : ℕ) → may_hold (holdings table.now tree.now blocks.now 0) split w ≡ true
         → IsNoWorse (holdings table.now tree.now blocks.now 0) split result w }
 {
+    let holders = blocks.holders(split);
     let mut best: Option<WorkerNo> = None;
+    let mut fewest = usize::MAX;
     for i in 0..tree.workers() {
         let worker = WorkerNo::new(i as u16);
-        if may_hold(blocks, table, split, worker) {
-            best = Some(less_crowded(tree, beside, best, worker));
+        let beside = replicas_in(tree, tree.rack_of(worker), holders);
+        if beside < fewest && may_hold(blocks, table, split, worker) {
+            best = Some(worker);
+            fewest = beside;
         }
     }
     best.unwrap()
-}
-
-// The best so far, unless a later worker has fewer replicas in its rack.
-fn less_crowded(
-    tree: &RackTree,
-    beside: &[u8; MAX_RACKS],
-    best: Option<WorkerNo>,
-    worker: WorkerNo,
-) -> WorkerNo
-    requires worker { worker < length tree.now.rack_of }
-    requires best { IfSome best (λ b. b < worker) }
-    ensures { MatchOption best (result ≡ worker) (λ b.
-        ((result ≡ b)
-        × (replicas_at beside.now tree.now b ≤ replicas_at beside.now tree.now worker))
-        ⊎ ((result ≡ worker)
-        × (replicas_at beside.now tree.now worker < replicas_at beside.now tree.now b))) }
-{
-    match best {
-        None => worker,
-        Some(best) => {
-            if beside[tree.rack_of(worker).index()] < beside[tree.rack_of(best).index()] {
-                worker
-            } else {
-                best
-            }
-        }
-    }
 }

@@ -1,5 +1,8 @@
 -- Chains of slots, and what a walk along one shows.
-use Rattle.std.proofs.Common.{◌≡◌, ℕ, ◌+◌, ◌<◌, ◌≤◌, length, List, inl, inr, refl, ap, subst, sym, get_or, ◌∙◌, arith}
+use Rattle.std.proofs.Common.{◌≡◌, ℕ, ◌<◌, ◌≤◌, ◌++◌, length, take, drop, List, inl, inr, ap}
+use Rattle.std.proofs.Common.{subst, sym, get_or, ◌∙◌, arith}
+use Rattle.std.proofs.Math.Seq.{take-append_seam}
+use Rattle.std.proofs.Math.ListN.{drop_of_length-le}
 use Rattle.std.proofs.lemmas.Bool.{cases_lt}
 use Rattle.std.proofs.lemmas.List.{get_or_default}
 use Rattle.std.specs.Prelude.{Contains}
@@ -16,6 +19,11 @@ use Rattle.certificate_checker.specs.declared.slots.Level.{Level}
 use Rattle.certificate_checker.specs.declared.slots.Slot.{Slot}
 use Rattle.certificate_checker.specs.Slots.{node_at, slot_at, AreFrom, AreSlots, IsNext}
 
+-- a list in which its sorted part, all of it, is written back
+pub written_back : {X : Type 0} (xs ys : List X) (n : ℕ) → length xs ≡ n → length ys ≡ length xs →
+    take n (ys ++ drop (length ys) xs) ≡ ys
+written_back xs ys n long same = grind (arith, take-append_seam, drop_of_length-le)
+
 -- from the end on there is none
 pub none_next : (nodes : ℕ → ℕ) (end v next : ℕ) → next ≡ end → IsNext nodes end v end next
 none_next nodes end v next e = record {
@@ -26,8 +34,9 @@ none_next nodes end v next e = record {
 }
 
 -- the node above the slot that is read at a place
-pub same_node : (tree t : Tree) (level : Level) (slots : List Slot) (k node : ℕ) (d : Slot) → k < length slots →
-    t ≡ tree → node ≡ node_at t level (get_or slots k d).worker → node_at tree level (slot_at slots k).worker ≡ node
+pub same_node : (tree t : Tree) (level : Level) (slots : List Slot) (k node : ℕ) (d : Slot) →
+    k < length slots → t ≡ tree → node ≡ node_at t level (get_or slots k d).worker →
+    node_at tree level (slot_at slots k).worker ≡ node
 same_node tree t level slots k node d within same is =
     sym (is ∙ ap (λ (z : Tree). node_at z level (get_or slots k d).worker) same
     ∙ ap (λ (slot : Slot). node_at tree level slot.worker) (get_or_default slots k d _ within))
@@ -38,7 +47,8 @@ same_slot a b e f =
     ∙ ap (λ (n : ℕ). let z : Slot = record { worker = b.worker; price = n } in z) f
 
 -- a list with the slot of each worker at its place, sorted
-pub sorted_slots : (claim : Claim) (xs ys : List Slot) → length xs ≡ length claim.wave.workers → length xs ≤ MAX_WORKERS →
+pub sorted_slots : (claim : Claim) (xs ys : List Slot) → length xs ≡ length claim.wave.workers →
+    length xs ≤ MAX_WORKERS →
     ((k : ℕ) → k < length xs → ((slot_at xs k).worker ≡ k)
     × (IsUsable claim.wave.workers k → (slot_at xs k).price ≡ worker_price claim.prices k)) →
     IsPermutation xs ys → IsNonDecreasingBy (λ (slot : Slot). slot.price) ys → AreSlots claim ys
@@ -58,7 +68,8 @@ sorted_slots claim xs ys long few each moved up =
           }) (each w within).0 ((each w within).1 usable)) (Contains-get_or xs w none within));
     }
 
--- a walk along the slots under a node has passed those before a place, all of them barred, and those from it on are dear
+-- a walk along the slots under a node has passed those before a place, all of them barred, and those from it
+-- on are dear
 pub walked : (claim : Claim) (s : ℕ) (level : Level) (node least place : ℕ) (slots : List Slot) →
     AreSlots claim slots →
     ((k : ℕ) → k < place → node_at claim.wave.tree level (slot_at slots k).worker ≡ node →

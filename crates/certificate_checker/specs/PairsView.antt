@@ -2,7 +2,8 @@ use Rattle.std.specs.Prelude.{◌≡◌, ◌+◌, ◌*◌, ◌≤◌}
 use Rattle.rack_tree.specs.declared.TheConstants.{MAX_DISTANCE}
 use Rattle.wave_problem.specs.declared.TheConstants.{MAX_BYTES, MAX_SPLITS}
 use Rattle.wave_problem.specs.Wave.{reward}
-use Rattle.price_certificate.specs.Certificate.{AllHold, Claim, of_split_price, of_worker_price}
+use Rattle.price_certificate.specs.Certificate.{Claim}
+use Rattle.certificate_checker.specs.Verdict.{MayComparePairs}
 use Rattle.certificate_checker.specs.Slots.{chain_at, AreSlots, Links}
 use Rattle.certificate_checker.specs.declared.pairs.PairChecker.TheInside.{Inside}
 use Rattle.certificate_checker.specs.declared.slots.Level.{Level}
@@ -11,11 +12,10 @@ use Rattle.certificate_checker.specs.declared.slots.Level.{Level}
 abbrev pub claim_of : Inside → Claim
 claim_of p = p.checker.now
 
--- no price is above the reward, and what is kept beside the claim is its
+-- the conditions before the pairs hold, and what is kept beside the claim is its
 pub record IsReady (p : Inside) : Type 0 where
+  pub before : MayComparePairs p.checker.now
   pub reward : p.reward ≡ reward p.checker.now.wave
   pub small : p.reward ≤ 1 + MAX_DISTANCE * MAX_SPLITS * MAX_BYTES
-  pub split_prices : AllHold p.checker.now of_split_price
-  pub worker_prices : AllHold p.checker.now of_worker_price
-  pub slots : AreSlots p.checker.now p.slots.all.now
-  pub links : (level : Level) → Links p.checker.now p.slots.all.now level (chain_at p.slots level)
+  pub slots : AreSlots p.checker.now p.slots.all.items
+  pub links : (level : Level) → Links p.checker.now p.slots.all.items level (chain_at p.slots level)

@@ -1,12 +1,17 @@
 -- By which prices a split is settled: no pair of it is priced too low.
-use Rattle.std.specs.Prelude.{ℕ, ◌≡◌, ◌+◌, ◌*◌, ◌≤◌, true}
+use Rattle.std.specs.Prelude.{ℕ, ◌≡◌, ◌+◌, ◌*◌, ◌≤◌, Bool, IsTrue, true}
 use Rattle.node_ids.specs.Sets.{HasPair}
 use Rattle.wave_problem.specs.Wave.{IsUsable, reward, split_at, worker_at}
-use Rattle.price_certificate.specs.Certificate.{Claim, split_price, worker_price}
+use Rattle.price_certificate.specs.Certificate.{Claim, Holds, split_price, worker_price}
+use Rattle.price_certificate.specs.declared.Condition.TheVariants.{Priced}
 use Rattle.certificate_checker.specs.Slots.{node_at}
 use Rattle.certificate_checker.specs.declared.pairs.Enough.{Enough}
 use Rattle.certificate_checker.specs.declared.slots.Level.{Level}
 use Rattle.certificate_checker.specs.declared.slots.Level.TheVariants.{Rack}
+
+-- where the test says so, no pair of s is priced too low
+abbrev pub IsSettled : Claim → ℕ → Bool → Type 0
+IsSettled claim s settled = IsTrue settled → (w : ℕ) → Holds claim (Priced s w)
 
 -- s is priced with any worker that costs so much, so many steps from a holder
 abbrev pub IsLeast : Claim → ℕ → ℕ → ℕ → Type 0

@@ -1,9 +1,10 @@
 -- The slots of the workers by rising price, and how those under one node of the tree follow each other.
-use Rattle.std.specs.Prelude.{ℕ, ◌≡◌, ◌≢◌, ◌+◌, ◌<◌, ◌≤◌, List, length, slice_index, slice_index_or, All, Contains}
+use Rattle.std.specs.Prelude.{ℕ, ◌≡◌, ◌≢◌, ◌+◌, ◌<◌, ◌≤◌, List, length, slice_index, slice_index_or, All}
+use Rattle.std.specs.Prelude.{Contains}
 use Rattle.std.specs.List.Sorted.{IsNonDecreasingBy}
 use Rattle.node_ids.specs.Sets.{HasPair}
 use Rattle.rack_tree.specs.Tree.{Tree, centre_at}
-use Rattle.rack_tree.specs.declared.TheConstants.{MAX_RACKS, MAX_WORKERS}
+use Rattle.rack_tree.specs.declared.TheConstants.{MAX_WORKERS}
 use Rattle.wave_problem.specs.Wave.{IsUsable}
 use Rattle.price_certificate.specs.Certificate.{Claim, worker_price}
 use Rattle.certificate_checker.specs.declared.slots.Level.{Level}
@@ -12,7 +13,13 @@ use Rattle.certificate_checker.specs.declared.slots.Slot.{Slot}
 use Rattle.certificate_checker.specs.declared.slots.Chain.{Chain}
 use Rattle.certificate_checker.specs.declared.slots.Slots.{Slots}
 
--- the number of the node above w at a level; the cluster is one node
+-- how many nodes there are at a level; the cluster is one node
+abbrev pub nodes_at : Tree → Level → ℕ
+nodes_at tree Rack = length tree.centre_of
+nodes_at tree Centre = tree.centres
+nodes_at tree Cluster = 1
+
+-- the number of the node above w at a level
 abbrev pub node_at : Tree → Level → ℕ → ℕ
 node_at tree Rack w = slice_index tree.rack_of w
 node_at tree Centre w = centre_at tree w
@@ -37,18 +44,19 @@ pub record AreSlots (claim : Claim) (slots : List Slot) : Type 0 where
       Contains slots (record { worker = w; price = worker_price claim.prices w })
 
 -- next is the first place from k on whose slot is under the node, or the end where there is none
-pub record IsNext (nodes : ℕ → ℕ) (end node k next : ℕ) : Type 0 where
+pub record IsNext (above : ℕ → ℕ) (end node k next : ℕ) : Type 0 where
   pub on : k ≤ next
   pub within : next ≤ end
-  pub under : next < end → nodes next ≡ node
-  pub others : (j : ℕ) → k ≤ j → j < next → nodes j ≢ node
+  pub under : next < end → above next ≡ node
+  pub others : (j : ℕ) → k ≤ j → j < next → above j ≢ node
 
--- the chain links the places from k to the end: nodes tells under which node the slot at a place is
-pub record AreLinked (nodes : ℕ → ℕ) (end : ℕ) (chain : Chain) (k : ℕ) : Type 0 where
-  pub node_places : length chain.first ≡ MAX_RACKS
-  pub slot_places : length chain.next ≡ MAX_WORKERS
-  pub first : (v : ℕ) → v < MAX_RACKS → IsNext nodes end v k (slice_index chain.first v)
-  pub next : (j : ℕ) → k ≤ j → j < end → IsNext nodes end (nodes j) (j + 1) (slice_index chain.next j)
+-- the chain of so many nodes links the places from k to the end: above tells the node above the slot at a
+-- place
+pub record AreLinked (above : ℕ → ℕ) (nodes end : ℕ) (chain : Chain) (k : ℕ) : Type 0 where
+  pub node_places : length chain.first.items ≡ nodes
+  pub slot_places : length chain.next.items ≡ end
+  pub first : (v : ℕ) → v < nodes → IsNext above end v k (slice_index chain.first.items v)
+  pub next : (j : ℕ) → k ≤ j → j < end → IsNext above end (above j) (j + 1) (slice_index chain.next.items j)
 
 -- the chain at a level
 abbrev pub chain_at : Slots → Level → Chain
@@ -59,4 +67,5 @@ chain_at slots Cluster = slots.cluster
 -- the chain links the slots of a list at a level of the tree
 abbrev pub Links : Claim → List Slot → Level → Chain → Type 0
 Links claim slots level chain =
-    AreLinked (λ k. node_at claim.wave.tree level (slot_at slots k).worker) (length slots) chain 0
+    AreLinked (λ k. node_at claim.wave.tree level (slot_at slots k).worker) (nodes_at claim.wave.tree level)
+    (length slots) chain 0

@@ -1,39 +1,39 @@
-ghost use Rattle.std.specs.Prelude.{◌≡◌, ℕ, ◌+◌, ◌*◌, ◌<◌, ◌≤◌, ◌↔◌, length, slice_index};
+ghost use Rattle.std.specs.Prelude.{◌≡◌, ◌+◌, ◌*◌, ◌<◌, ◌≤◌, ◌↔◌, length};
 ghost use Rattle.std.specs.Prelude.{unwrap_or, IsTrue, OnOk, Err, IfErr, IfOk, IfSome};
 ghost use Rattle.node_ids.specs.Sets.{HasPair};
 ghost use Rattle.rack_tree.specs.Tree.{IsWithinReach};
 ghost use Rattle.rack_tree.specs.declared.TheConstants.{MAX_DISTANCE, MAX_WORKERS};
 ghost use Rattle.wave_problem.specs.declared.TheConstants.{MAX_BYTES, MAX_SPLITS};
-ghost use Rattle.wave_problem.specs.Wave.{cost, reward, worker_at, IsUsable};
+ghost use Rattle.wave_problem.specs.Wave.{cost, reward, worker_at, IsOpen, IsUsable};
 ghost use Rattle.wave_problem.specs.Assignment.{load, pairs_of, start_of, total};
 ghost use Rattle.price_certificate.specs.Certificate.{AllHold, claim, Certifies, HasOneSize, Holds};
 ghost use Rattle.price_certificate.specs.Certificate.{IsFirstFailure, IsFirstOf, MayTake, priced_at};
 ghost use Rattle.price_certificate.specs.Certificate.{split_price, worker_price, of_allowed, of_open};
 ghost use Rattle.price_certificate.specs.Certificate.{of_priced, of_room, of_spare, of_split_price, of_tight};
 ghost use Rattle.price_certificate.specs.Certificate.{of_unstarted, of_worker_price, Claim};
-ghost use Rattle.certificate_checker.specs.Verdict.{IfFailed, MayComparePairs};
+ghost use Rattle.certificate_checker.specs.Verdict.{IfFailed, IsFirstUnderpriced, MayComparePairs};
 ghost use Rattle.certificate_checker.specs.Slots.{AreSlots};
-ghost use Rattle.certificate_checker.specs.View.{claim_of, IsSound};
+ghost use Rattle.certificate_checker.specs.View.{claim_of, AreLoads, IsSound};
 
 use crate::pairs::PairChecker;
-use crate::slots::{Slot, no_slots, sort_by_price};
+use crate::slots::{Slot, sort_by_price};
 use crate::{Certified, CheckError};
 use node_ids::{SplitNo, WorkerNo};
 use price_certificate::{Condition, Prices};
-use rack_tree::MAX_WORKERS;
-use std::alloc::Global;
+use std::alloc::{AllocError, Global};
 use std::marker::Model;
 use std::thread::Threads;
 use wave_problem::{Plan, Problem};
 
-// A problem, a plan and prices of one size, with what would be counted again at each place.
+// A problem, a plan and prices of one size, with what would be counted again at each place. Without a table
+// of the loads, each is counted as it is asked for.
 #[derive(Drop)]
 pub(crate) struct Checker<'a> {
     problem: &'a Problem,
     plan: &'a Plan,
     prices: &'a Prices,
     reward: u64,
-    loads: [u32; MAX_WORKERS],
+    loads: Option<Vec<u32>>,
 }
 
 impl<'a> Model for Checker<'a> {
@@ -46,19 +46,24 @@ impl<'a> Model for Checker<'a> {
 
 // What the conditions speak of.
 impl<'a> Checker<'a> {
-    pub(crate) fn new(problem: &'a Problem, plan: &'a Plan, prices: &'a Prices) -> Checker<'a>
-        requires { HasOneSize (claim problem.now plan.now.starts prices.now) plan.now.workers }
+    pub(crate) fn new(
+        problem: &'a Problem,
+        plan: &'a Plan,
+        prices: &'a Prices,
+        loads: Option<Vec<u32>>,
+    ) -> Checker<'a>
+        requires sizes { HasOneSize (claim problem.now plan.now.starts prices.now) plan.now.workers }
+        requires loads { IfSome loads (λ loads. AreLoads plan.now loads.items) }
         ensures value { result ≡ claim problem.now plan.now.starts prices.now }
         ensures near { IsWithinReach result.wave.tree }
     {
         problem.limits();
-        let workers = problem.workers();
         Checker {
             problem,
             plan,
             prices,
             reward: problem.reward(),
-            loads: loads_of(plan, workers),
+            loads,
         }
     }
 
@@ -93,18 +98,21 @@ impl<'a> Checker<'a> {
         self.plan.of(split)
     }
 
-    fn load(&self, worker: WorkerNo) -> u32
+    fn load(&self, worker: WorkerNo) -> usize
         requires { worker < length self.now.wave.workers }
         ensures { result ≡ load (pairs_of self.now.starts) worker }
     {
-        self.loads[worker.index()]
+        match &self.loads {
+            Some(loads) => loads[worker.index()] as usize,
+            None => self.plan.load(worker),
+        }
     }
 
-    fn slots(&self, worker: WorkerNo) -> u32
+    fn slots(&self, worker: WorkerNo) -> usize
         requires { worker < length self.now.wave.workers }
         ensures { result ≡ (worker_at self.now.wave worker).free }
     {
-        u32::from(self.problem.free(worker))
+        usize::from(self.problem.free(worker))
     }
 
     pub(crate) fn reward(&self) -> u64
@@ -182,8 +190,14 @@ impl<'a> Checker<'a> {
         requires { split < length self.now.wave.splits }
         ensures { IsTrue result ↔ Holds self.now (Condition.Open split) }
     {
-        self.plan.of(split).is_none()
-            || (self.problem.is_pending(split) && self.problem.has_live_holder(split))
+        self.plan.of(split).is_none() || self.is_open(split)
+    }
+
+    fn is_open(&self, split: SplitNo) -> bool
+        requires { split < length self.now.wave.splits }
+        ensures { IsTrue result ↔ IsOpen self.now.wave split }
+    {
+        self.problem.is_pending(split) && self.problem.has_live_holder(split)
     }
 
     fn allows(&self, split: SplitNo, worker: WorkerNo) -> bool
@@ -227,6 +241,55 @@ impl<'a> Checker<'a> {
         self.worker_price(worker) <= self.reward()
     }
 
+    // Both prices of a pair.
+    fn price(&self, split: SplitNo, worker: WorkerNo) -> u64
+        requires before { MayComparePairs self.now }
+        requires split { split < length self.now.wave.splits }
+        requires worker { worker < length self.now.wave.workers }
+        ensures sum { result ≡ split_price self.now.prices split + worker_price self.now.prices worker }
+        ensures most { result ≤ 2 * (1 + MAX_DISTANCE * MAX_SPLITS * MAX_BYTES) }
+    {
+        self.prices.split(split) + self.prices.worker(worker)
+    }
+
+    fn is_priced(&self, split: SplitNo, worker: WorkerNo) -> bool
+        requires before { MayComparePairs self.now }
+        requires split { split < length self.now.wave.splits }
+        requires worker { worker < length self.now.wave.workers }
+        ensures { IsTrue result ↔ Holds self.now (Condition.Priced split worker) }
+    {
+        let sum = self.price(split, worker) + self.cost(split, worker);
+        sum >= self.reward || !self.problem.admissible(split, worker)
+    }
+
+    fn is_tight(&self, split: SplitNo, worker: WorkerNo) -> bool
+        requires before { MayComparePairs self.now }
+        requires split { split < length self.now.wave.splits }
+        requires worker { worker < length self.now.wave.workers }
+        ensures { IsTrue result ↔ (priced_at self.now.wave self.now.prices split worker
+            ≡ reward self.now.wave) }
+    {
+        self.price(split, worker) + self.cost(split, worker) == self.reward
+    }
+
+    // The first worker with which the split is admissible and priced below the reward, by a look at each.
+    pub(crate) fn first_underpriced(&self, split: SplitNo) -> Option<WorkerNo>
+        requires before { MayComparePairs self.now }
+        requires split { split < length self.now.wave.splits }
+        ensures { IsFirstUnderpriced self.now split result }
+    {
+        if !self.is_open(split) {
+            return None;
+        }
+        for i in 0..self.workers() {
+            let worker = WorkerNo::new(i as u16);
+            if !self.is_priced(split, worker) {
+                return Some(worker);
+            }
+        }
+        None
+    }
+
     fn is_free_unless_started(&self, split: SplitNo) -> bool
         requires { split < length self.now.wave.splits }
         ensures { IsTrue result ↔ Holds self.now (Condition.Unstarted split) }
@@ -244,12 +307,12 @@ impl<'a> Checker<'a> {
 
 // The conditions at all places, in their order.
 impl<'a> Checker<'a> {
-    pub(crate) fn check(&self) -> Result<(), Condition>
+    pub(crate) fn check(&self, alloc: Global) -> Result<(), Condition>
         ensures ok { OnOk result (Certifies self.now) }
         ensures err { IfErr result (IsFirstFailure self.now) }
     {
         self.check_before_pairs()?;
-        self.check_pairs()?;
+        self.check_pairs(alloc)?;
         self.check_after_pairs()
     }
 
@@ -280,15 +343,13 @@ impl<'a> Checker<'a> {
         self.check_worker_prices()
     }
 
-    fn check_pairs(&self) -> Result<(), Condition>
+    fn check_pairs(&self, alloc: Global) -> Result<(), Condition>
         requires { MayComparePairs self.now }
         ensures ok { OnOk result (AllHold self.now of_priced × AllHold self.now of_tight) }
         ensures err { IfErr result (IsFirstFailure self.now) }
     {
-        let mut table = no_slots();
-        let pairs = self.pair_checker(&mut table[..self.workers()]);
-        pairs.check_priced()?;
-        pairs.check_tight()
+        self.check_priced(alloc)?;
+        self.check_tight()
     }
 
     // As `check_pairs`, on many threads.
@@ -297,11 +358,21 @@ impl<'a> Checker<'a> {
         ensures ok { OnOk result (AllHold self.now of_priced × AllHold self.now of_tight) }
         ensures failed { IfFailed result (IsFirstFailure self.now) }
     {
-        let mut table = no_slots();
-        let pairs = self.pair_checker(&mut table[..self.workers()]);
-        pairs.check_priced_on(rt, alloc)?;
-        pairs.check_tight()?;
+        self.pair_checker(alloc)?.check_priced_on(rt, alloc)?;
+        self.check_tight()?;
         Ok(())
+    }
+
+    // By the slots of the workers; where there is no memory for them, by a look at each pair.
+    fn check_priced(&self, alloc: Global) -> Result<(), Condition>
+        requires { MayComparePairs self.now }
+        ensures ok { OnOk result (AllHold self.now of_priced) }
+        ensures err { IfErr result (IsFirstOf self.now of_priced) }
+    {
+        match self.pair_checker(alloc) {
+            Ok(pairs) => pairs.check_priced(),
+            Err(_) => self.check_each_pair(),
+        }
     }
 
     fn check_after_pairs(&self) -> Result<(), Condition>
@@ -315,29 +386,29 @@ impl<'a> Checker<'a> {
         self.check_spare()
     }
 
-    // What tests the pairs, by the slots of all workers, for which there is room.
-    fn pair_checker<'b>(&'b self, room: &'b mut [Slot]) -> PairChecker<'b>
-        requires before { MayComparePairs self.now }
-        requires room { length room.old ≡ length self.now.wave.workers }
-        ensures { result ≡ self.now }
+    // What tests the pairs by the slots of all workers.
+    fn pair_checker(&self, alloc: Global) -> Result<PairChecker<'_>, AllocError>
+        requires { MayComparePairs self.now }
+        ensures { IfOk result (λ pairs. pairs ≡ self.now) }
     {
-        self.put_slots(room);
-        PairChecker::new(self, room)
+        let slots = self.sorted_slots(alloc)?;
+        PairChecker::new(alloc, self, slots)
     }
 
     // The slots of all workers by rising price. A slot that nobody can take counts as the dearest.
-    fn put_slots(&self, slots: &mut [Slot])
-        requires { length slots.old ≡ length self.now.wave.workers }
-        ensures { AreSlots self.now slots.new }
+    fn sorted_slots(&self, alloc: Global) -> Result<Vec<Slot>, AllocError>
+        ensures { IfOk result (λ slots. AreSlots self.now slots.items) }
     {
+        let mut slots = Vec::with_capacity(alloc, self.workers())?;
         for i in 0..self.workers() {
             let worker = WorkerNo::new(i as u16);
-            slots[i] = Slot {
+            slots.push_reserved(Slot {
                 worker,
                 price: self.slot_price(worker),
-            };
+            });
         }
-        sort_by_price(slots);
+        sort_by_price(&mut slots);
+        Ok(slots)
     }
 
     fn slot_price(&self, worker: WorkerNo) -> u64
@@ -419,6 +490,36 @@ impl<'a> Checker<'a> {
         Ok(())
     }
 
+    fn check_each_pair(&self) -> Result<(), Condition>
+        requires { MayComparePairs self.now }
+        ensures ok { OnOk result (AllHold self.now of_priced) }
+        ensures err { IfErr result (IsFirstOf self.now of_priced) }
+    {
+        for i in 0..self.splits() {
+            let split = SplitNo::new(i as u32);
+            if let Some(worker) = self.first_underpriced(split) {
+                return Err(Condition::Priced(split, worker));
+            }
+        }
+        Ok(())
+    }
+
+    fn check_tight(&self) -> Result<(), Condition>
+        requires { MayComparePairs self.now }
+        ensures ok { OnOk result (AllHold self.now of_tight) }
+        ensures err { IfErr result (IsFirstOf self.now of_tight) }
+    {
+        for i in 0..self.splits() {
+            let split = SplitNo::new(i as u32);
+            if let Some(worker) = self.start(split) {
+                if !self.is_tight(split, worker) {
+                    return Err(Condition::Tight(split, worker));
+                }
+            }
+        }
+        Ok(())
+    }
+
     fn check_unstarted(&self) -> Result<(), Condition>
         ensures ok { OnOk result (AllHold self.now of_unstarted) }
         ensures err { IfErr result (IsFirstOf self.now of_unstarted) }
@@ -447,16 +548,14 @@ impl<'a> Checker<'a> {
 }
 
 // How many splits the plan starts on each of its workers.
-fn loads_of(plan: &Plan, workers: usize) -> [u32; MAX_WORKERS]
-    requires count { workers ≡ plan.now.workers }
-    requires few { workers ≤ MAX_WORKERS }
-    ensures { (w : ℕ) → w < MAX_WORKERS → slice_index result w ≡ load (pairs_of plan.now.starts) w }
+pub(crate) fn loads_of(alloc: Global, plan: &Plan) -> Result<Vec<u32>, AllocError>
+    ensures { IfOk result (λ loads. AreLoads plan.now loads.items) }
 {
-    let mut loads = [0; MAX_WORKERS];
+    let mut loads = vec![in alloc; 0; plan.workers()]?;
     for i in 0..plan.splits() {
         if let Some(worker) = plan.of(SplitNo::new(i as u32)) {
             loads[worker.index()] += 1;
         }
     }
-    loads
+    Ok(loads)
 }

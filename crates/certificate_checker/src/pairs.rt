@@ -1,16 +1,13 @@
-//! The conditions on pairs of a split and a worker.
-ghost use Rattle.std.specs.Prelude.{◌≡◌, ℕ, ◌+◌, ◌*◌, ◌<◌, ◌≤◌, ◌↔◌, length, slice_index, slice_index_or, All};
-ghost use Rattle.std.specs.Prelude.{IsTrue, OnOk, IfErr, IfOk, None};
-ghost use Rattle.rack_tree.specs.declared.TheConstants.{MAX_DISTANCE, MAX_RACKS, MAX_WORKERS};
-ghost use Rattle.wave_problem.specs.declared.TheConstants.{MAX_BYTES, MAX_SPLITS};
-ghost use Rattle.wave_problem.specs.Wave.{reward, split_at};
-ghost use Rattle.price_certificate.specs.Certificate.{AllHold, Claim, Holds, IsFirstOf, priced_at};
-ghost use Rattle.price_certificate.specs.Certificate.{split_price, worker_price, of_priced, of_split_price};
-ghost use Rattle.price_certificate.specs.Certificate.{of_tight, of_worker_price};
-ghost use Rattle.certificate_checker.specs.Verdict.{IfFailed, IsFirstUnderpriced};
-ghost use Rattle.certificate_checker.specs.Slots.{node_at, slot_at, AreFrom, AreSlots, Links};
+//! The condition on pairs of a split and a worker, by the slots of the workers.
+ghost use Rattle.std.specs.Prelude.{◌≡◌, ℕ, ◌<◌, ◌≤◌, false, length, slice_index_or, All};
+ghost use Rattle.std.specs.Prelude.{IsTrue, OnOk, IfErr, IfOk};
+ghost use Rattle.wave_problem.specs.declared.TheConstants.{MAX_SPLITS};
+ghost use Rattle.wave_problem.specs.Wave.{split_at};
+ghost use Rattle.price_certificate.specs.Certificate.{AllHold, Claim, IsFirstOf, of_priced};
+ghost use Rattle.certificate_checker.specs.Verdict.{IfFailed, IsFirstUnderpriced, MayComparePairs};
+ghost use Rattle.certificate_checker.specs.Slots.{nodes_at, AreFrom, AreSlots, Links};
 ghost use Rattle.certificate_checker.specs.Settled.{ArePriced, IsEnough, IsLeast, IsPricedAround};
-ghost use Rattle.certificate_checker.specs.Settled.{IsPricedNear, IsPricedOn};
+ghost use Rattle.certificate_checker.specs.Settled.{IsPricedNear, IsPricedOn, IsSettled};
 ghost use Rattle.certificate_checker.specs.PairsView.{claim_of, IsReady};
 ghost use Rattle.certificate_checker.specs.declared.slots.Level.TheVariants.{Centre, Cluster, Rack};
 
@@ -23,17 +20,18 @@ use rayon::prelude::*;
 use std::alloc::{AllocError, Global};
 use std::marker::Model;
 use std::thread::Threads;
-use wave_problem::{Problem, SplitCosts};
+use wave_problem::Problem;
 
 // How many splits a thread takes at the least: fewer are not worth the start of a thread.
 const SPLITS_PER_THREAD: usize = 128;
 
-// A checker whose prices are at most the reward each, with the slots of the workers by rising price.
+// A checker that has found the conditions before the pairs to hold, with the slots of the workers by rising
+// price.
 #[derive(Drop)]
 pub(crate) struct PairChecker<'a> {
     checker: &'a Checker<'a>,
     reward: u64,
-    slots: Slots<'a>,
+    slots: Slots,
 }
 
 // The least prices of workers with which a split is priced, by how far they are from its nearest holder.
@@ -54,22 +52,28 @@ impl<'a> Model for PairChecker<'a> {
 }
 
 impl<'a> PairChecker<'a> {
-    pub(crate) fn new(checker: &'a Checker<'a>, slots: &'a [Slot]) -> PairChecker<'a>
-        requires split_prices { AllHold checker.now of_split_price }
-        requires worker_prices { AllHold checker.now of_worker_price }
-        requires slots { AreSlots checker.now slots.now }
-        ensures { result ≡ checker.now }
+    pub(crate) fn new(
+        alloc: Global,
+        checker: &'a Checker<'a>,
+        slots: Vec<Slot>,
+    ) -> Result<PairChecker<'a>, AllocError>
+        requires before { MayComparePairs checker.now }
+        requires slots { AreSlots checker.now slots.items }
+        ensures { IfOk result (λ pairs. pairs ≡ checker.now) }
     {
-        PairChecker {
+        let racks = linked(alloc, checker, &slots, Level::Rack)?;
+        let centres = linked(alloc, checker, &slots, Level::Centre)?;
+        let cluster = linked(alloc, checker, &slots, Level::Cluster)?;
+        Ok(PairChecker {
             checker,
             reward: checker.reward(),
             slots: Slots {
                 all: slots,
-                racks: linked(checker, slots, Level::Rack),
-                centres: linked(checker, slots, Level::Centre),
-                cluster: linked(checker, slots, Level::Cluster),
+                racks,
+                centres,
+                cluster,
             },
-        }
+        })
     }
 
     fn problem(&self) -> &Problem
@@ -86,49 +90,21 @@ impl<'a> PairChecker<'a> {
         self.checker.splits()
     }
 
-    // Both prices of a pair.
-    fn price(&self, split: SplitNo, worker: WorkerNo) -> u64
-        requires split { split < length self.now.wave.splits }
-        requires worker { worker < length self.now.wave.workers }
-        ensures sum { result ≡ split_price self.now.prices split + worker_price self.now.prices worker }
-        ensures most { result ≤ 2 * (1 + MAX_DISTANCE * MAX_SPLITS * MAX_BYTES) }
-    {
-        self.checker.split_price(split) + self.checker.worker_price(worker)
-    }
-
-    fn is_priced(&self, costs: &SplitCosts<'_>, worker: WorkerNo) -> bool
-        requires split { costs.now.split < length self.now.wave.splits }
-        requires worker { worker < length self.now.wave.workers }
-        requires wave { costs.now.wave ≡ self.now.wave }
-        ensures { IsTrue result ↔ Holds self.now (Condition.Priced costs.now.split worker) }
-    {
-        let sum = self.price(costs.split(), worker) + costs.cost(worker).unwrap_or(0);
-        sum >= self.reward || !costs.admissible(worker)
-    }
-
-    fn is_tight(&self, split: SplitNo, worker: WorkerNo) -> bool
-        requires split { split < length self.now.wave.splits }
-        requires worker { worker < length self.now.wave.workers }
-        ensures { IsTrue result ↔ (priced_at self.now.wave self.now.prices split worker
-            ≡ reward self.now.wave) }
-    {
-        self.price(split, worker) + self.checker.cost(split, worker) == self.reward
-    }
-
     pub(crate) fn check_priced(&self) -> Result<(), Condition>
         ensures ok { OnOk result (AllHold self.now of_priced) }
         ensures err { IfErr result (IsFirstOf self.now of_priced) }
     {
         for i in 0..self.splits() {
             let split = SplitNo::new(i as u32);
-            if let Some(worker) = self.first_underpriced(split) {
+            if let Some(worker) = self.first_unless(self.is_settled(split), split) {
                 return Err(Condition::Priced(split, worker));
             }
         }
         Ok(())
     }
 
-    // As `check_priced`: the splits are looked at on many threads, and their answers in order.
+    // As `check_priced`. Many threads find which splits are settled. Then the others are looked at in order,
+    // up to the first that has an underpriced worker.
     pub(crate) fn check_priced_on(
         &self,
         rt: &(impl Threads + Sync),
@@ -137,89 +113,54 @@ impl<'a> PairChecker<'a> {
         ensures ok { OnOk result (AllHold self.now of_priced) }
         ensures failed { IfFailed result (IsFirstOf self.now of_priced) }
     {
-        let rows = self.underpriced_on(rt, alloc)?;
+        let settled = self.settled_on(rt, alloc)?;
         for i in 0..self.splits() {
             let split = SplitNo::new(i as u32);
-            if let Some(worker) = rows[i] {
+            if let Some(worker) = self.first_unless(settled[i], split) {
                 return Err(CheckError::Failed(Condition::Priced(split, worker)));
             }
         }
         Ok(())
     }
 
-    // The first underpriced worker of each split, found by as many threads as there are processors.
-    fn underpriced_on(
-        &self,
-        rt: &(impl Threads + Sync),
-        alloc: Global,
-    ) -> Result<Vec<Option<WorkerNo>>, AllocError>
+    // Which splits are settled, found by as many threads as there are processors.
+    fn settled_on(&self, rt: &(impl Threads + Sync), alloc: Global) -> Result<Vec<bool>, AllocError>
         ensures one_each { IfOk result (λ rows. length rows.items ≡ length self.now.wave.splits) }
-        ensures first { IfOk result (λ rows. (s : ℕ) → s < length self.now.wave.splits
-            → IsFirstUnderpriced self.now s (slice_index_or rows.items s None)) }
+        ensures settled { IfOk result (λ rows. (s : ℕ) → s < length self.now.wave.splits
+            → IsSettled self.now s (slice_index_or rows.items s false)) }
     {
         (0..self.splits())
             .into_par_iter()
             .map(
-                |i: usize| -> Option<WorkerNo>
+                |i: usize| -> bool
                     requires { (i < length self.now.wave.splits) × (i < MAX_SPLITS) }
-                    ensures { IsFirstUnderpriced self.entry.now i result }
-                { self.first_underpriced(SplitNo::new(i as u32)) },
+                    ensures { IsSettled self.entry.now i result }
+                { self.is_settled(SplitNo::new(i as u32)) },
             )
             .with_min_len(SPLITS_PER_THREAD)
             .collect(rt, alloc)
     }
-
-    pub(crate) fn check_tight(&self) -> Result<(), Condition>
-        ensures ok { OnOk result (AllHold self.now of_tight) }
-        ensures err { IfErr result (IsFirstOf self.now of_tight) }
-    {
-        for i in 0..self.splits() {
-            let split = SplitNo::new(i as u32);
-            if let Some(worker) = self.checker.start(split) {
-                if !self.is_tight(split, worker) {
-                    return Err(Condition::Tight(split, worker));
-                }
-            }
-        }
-        Ok(())
-    }
 }
 
-// The first worker with which a split is admissible and priced below the reward.
+// By which prices a split is settled.
 impl<'a> PairChecker<'a> {
-    fn first_underpriced(&self, split: SplitNo) -> Option<WorkerNo>
+    // The first worker with which a split is admissible and priced below the reward: none if it is settled.
+    fn first_unless(&self, settled: bool, split: SplitNo) -> Option<WorkerNo>
         requires split { split < length self.now.wave.splits }
+        requires settled { IsSettled self.now split settled }
         ensures { IsFirstUnderpriced self.now split result }
     {
-        if self.is_settled(split) {
+        if settled {
             return None;
         }
-        self.first_of_all(split)
-    }
-
-    // The same by a look at each worker, for a split that is not settled.
-    fn first_of_all(&self, split: SplitNo) -> Option<WorkerNo>
-        requires split { split < length self.now.wave.splits }
-        ensures { IsFirstUnderpriced self.now split result }
-    {
-        let costs = SplitCosts::new(self.problem(), split);
-        if !costs.is_open() {
-            return None;
-        }
-        for i in 0..self.checker.workers() {
-            let worker = WorkerNo::new(i as u16);
-            if !self.is_priced(&costs, worker) {
-                return Some(worker);
-            }
-        }
-        None
+        self.checker.first_underpriced(split)
     }
 
     // Whether no worker is cheap enough to be underpriced: none of all, were it a holder, or none under the
     // nodes above the live holders, each by its steps.
     fn is_settled(&self, split: SplitNo) -> bool
         requires split { split < length self.now.wave.splits }
-        ensures { IsTrue result → (w : ℕ) → Holds self.now (Condition.Priced split w) }
+        ensures { IsSettled self.now split result }
     {
         if !self.problem().is_pending(split) {
             return true;
@@ -288,7 +229,8 @@ impl<'a> PairChecker<'a> {
         true
     }
 
-    // Whether the workers of the node above a holder, if it lives, cost at least so much, but for barred ones.
+    // Whether the workers of the node above a holder, if it lives, cost at least so much, but for barred
+    // ones.
     fn is_priced_around(&self, split: SplitNo, holder: WorkerNo, level: Level, least: u64) -> bool
         requires split { split < length self.now.wave.splits }
         requires holder { holder < length self.now.wave.workers }
@@ -310,14 +252,15 @@ impl<'a> PairChecker<'a> {
         self.checker.worker_price(holder) >= enough.held || !self.checker.may_take(split, holder)
     }
 
-    // Whether each worker under the node costs at least so much, but for those from which the split is barred.
+    // Whether each worker under the node costs at least so much, but for those from which the split is
+    // barred.
     fn are_from(&self, split: SplitNo, level: Level, node: usize, least: u64) -> bool
         requires split { split < length self.now.wave.splits }
-        requires node { node < MAX_RACKS }
+        requires node { node < nodes_at self.now.wave.tree level }
         ensures { IsTrue result → AreFrom self.now split level node least }
     {
         let problem = self.problem();
-        let slots = self.slots.all;
+        let slots = &self.slots.all;
         let chain = self.slots.chain(level);
         let mut place = chain.first(node);
         'slots: while place < slots.len() {
@@ -335,14 +278,19 @@ impl<'a> PairChecker<'a> {
 }
 
 // The chain of the slots at a level.
-fn linked(checker: &Checker<'_>, slots: &[Slot], level: Level) -> Chain
+fn linked(
+    alloc: Global,
+    checker: &Checker<'_>,
+    slots: &[Slot],
+    level: Level,
+) -> Result<Chain, AllocError>
     requires { AreSlots checker.now slots.now }
-    ensures { Links checker.now slots.now level result }
+    ensures { IfOk result (Links checker.now slots.now level) }
 {
     let tree = checker.problem().tree();
-    let mut chain = Chain::new(slots.len());
+    let mut chain = Chain::new(alloc, level.nodes(tree), slots.len())?;
     for place in (0..slots.len()).rev() {
         chain.link(level.node(tree, slots[place].worker), place);
     }
-    chain
+    Ok(chain)
 }

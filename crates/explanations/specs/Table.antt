@@ -133,7 +133,7 @@ table =
     ∷ status (codes "6")
     (codes "a job's history is not made of its threads' calls, or a thread could not be started")
     ∷ status (codes "64")
-    (codes "usage: the words of the command line ask for nothing, or for a direct network past 1,024 splits")
+    (codes "usage: the command line asks for nothing, or for a direct network past 1,024 splits or 256 workers")
     ∷ status (codes "141")
     (codes "the reader of the answer has gone")
     ∷ []

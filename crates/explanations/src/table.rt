@@ -230,7 +230,7 @@ const ENTRIES: [Entry; 44] = [
     Entry {
         kind: "status",
         name: "64",
-        sentence: "usage: the words of the command line ask for nothing, or for a direct network past 1,024 splits",
+        sentence: "usage: the command line asks for nothing, or for a direct network past 1,024 splits or 256 workers",
     },
     Entry {
         kind: "status",

@@ -64,6 +64,7 @@ full_in_playing HistoryFull (Err e) is full = refl
 pub few_and_small : (head : Head) → IsFitHead head →
     AreFewAndSmall head.slots.items head.splits.items (values_of head.texts.items) head.parts
 few_and_small head is = record {
+  few_workers = is.few_workers;
   few_slots = is.few_slots;
   few_splits = is.few_splits;
   small_splits = is.small_splits;

@@ -1,5 +1,5 @@
 ghost use Rattle.std.specs.Prelude.{◌≡◌, ◌≢◌, ℕ, ◌<◌, ◌≤◌, All, Err, OnOk, length, string_bytes};
-ghost use Rattle.rack_tree.specs.declared.TheConstants.{MAX_WORKERS};
+ghost use Rattle.master_state.specs.declared.TheConstants.{MAX_JOB_WORKERS};
 ghost use Rattle.script_text.specs.declared.script.Command.TheVariants as asked;
 ghost use Rattle.job_play.specs.Reports.{IsKnownCommand, LacksRoom, alone, deaths, padded, set_of};
 ghost use Rattle.master_state.specs.Refusals.{Call, IsPair};
@@ -30,7 +30,7 @@ pub fn perform(
     lines: &mut String,
 ) -> Result<(), PlayError>
     requires known { IsKnownCommand master.old.setup command.now }
-    requires names { length script.now.names.workers ≤ MAX_WORKERS }
+    requires names { length script.now.names.workers ≤ MAX_JOB_WORKERS }
     requires given { HoldsRuns given.old master.old }
     ensures given { OnOk result (HoldsRuns given.new master.new) }
     ensures ok { OnOk result (Performed script.now.names script.now.target master.old command.now
@@ -57,7 +57,7 @@ fn tell(
 ) -> Result<(), AllocError>
     requires kind { (command.now ≢ asked.Wave) × (command.now ≢ asked.Reduce) }
     requires known { IsKnownCommand master.old.setup command.now }
-    requires names { length script.now.names.workers ≤ MAX_WORKERS }
+    requires names { length script.now.names.workers ≤ MAX_JOB_WORKERS }
     requires given { HoldsRuns given.now master.old }
     ensures { OnOk result (Performed script.now.names script.now.target master.old command.now
         (string_bytes lines.old) (string_bytes lines.new) master.new) }
@@ -123,7 +123,7 @@ fn sweep(
     lines: &mut String,
 ) -> Result<(), AllocError>
     requires counts { length counts.now ≤ 256 }
-    requires names { length names.now.workers ≤ MAX_WORKERS }
+    requires names { length names.now.workers ≤ MAX_JOB_WORKERS }
     ensures { OnOk result (IsAnswered master.old (Call.Sweep (padded counts.now))
         (deaths names.now master.old (padded counts.now))
         (string_bytes lines.old) (string_bytes lines.new) master.new) }

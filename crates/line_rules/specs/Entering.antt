@@ -48,27 +48,27 @@ entering_of keyword.Copies = InTurn
 entering_of keyword.Backup = InTurn
 entering_of keyword.End = Nothing
 
-abbrev pub most_workers : Purpose → ℕ
-most_workers Running = 32
-most_workers purpose = 256
+-- the greater of two limits holds in version 3, of a text that is read to plan, or to check a plan
+abbrev pub planned_limit : Version → ℕ → ℕ → ℕ
+planned_limit One less more = less
+planned_limit Two less more = less
+planned_limit Three less more = more
 
--- how many splits a text has that is read to plan, or to check a plan
-abbrev pub planned_splits : Version → ℕ
-planned_splits One = 1024
-planned_splits Two = 1024
-planned_splits Three = 131072
+abbrev pub limit_in : Version → Purpose → ℕ → ℕ → ℕ
+limit_in version Checking less more = planned_limit version less more
+limit_in version Planning less more = planned_limit version less more
+limit_in version purpose less more = less
 
-abbrev pub most_splits : Version → Purpose → ℕ
-most_splits version Checking = planned_splits version
-most_splits version Planning = planned_splits version
-most_splits version purpose = 1024
+abbrev pub most_workers : Version → Purpose → ℕ
+most_workers version Running = 32
+most_workers version purpose = limit_in version purpose 256 32768
 
 -- how many lines of a keyword there may be; of commands, how many in all
 abbrev pub most_of : Version → Purpose → Keyword → Option ℕ
-most_of version purpose keyword.Centre = Some 8
-most_of version purpose keyword.Rack = Some 32
-most_of version purpose keyword.Worker = Some (most_workers purpose)
-most_of version purpose keyword.Split = Some (most_splits version purpose)
+most_of version purpose keyword.Centre = Some (limit_in version purpose 8 256)
+most_of version purpose keyword.Rack = Some (limit_in version purpose 32 4096)
+most_of version purpose keyword.Worker = Some (most_workers version purpose)
+most_of version purpose keyword.Split = Some (limit_in version purpose 1024 131072)
 most_of version purpose keyword.Doc = Some 65536
 most_of version purpose keyword.Wave = Some 65536
 most_of version purpose keyword.Done = Some 65536

@@ -2,7 +2,7 @@ ghost use Rattle.std.specs.Prelude.{◌≡◌};
 ghost use Rattle.line_rules.specs.Entering.{entering_of as entering, follow_of as follow};
 ghost use Rattle.line_rules.specs.Entering.{is_priced as priced};
 ghost use Rattle.line_rules.specs.Entering.{most_more_of as most_words, most_of as most};
-ghost use Rattle.line_rules.specs.Entering.{most_splits as splits, most_workers as workers};
+ghost use Rattle.line_rules.specs.Entering.{limit_in as limit, most_workers as workers};
 
 use crate::edition::Version;
 use crate::purpose::Purpose;
@@ -61,10 +61,10 @@ pub fn most_of(version: Version, purpose: Purpose, keyword: Keyword) -> Option<u
         Keyword::Dead | Keyword::Busy | Keyword::Parts | Keyword::Target => None,
         Keyword::Silence | Keyword::Plan | Keyword::Start | Keyword::Price => None,
         Keyword::Begin | Keyword::End => None,
-        Keyword::Centre => Some(8),
-        Keyword::Rack => Some(32),
-        Keyword::Worker => Some(most_workers(purpose)),
-        Keyword::Split => Some(most_splits(version, purpose)),
+        Keyword::Centre => Some(limit_in(version, purpose, 8, 256)),
+        Keyword::Rack => Some(limit_in(version, purpose, 32, 4096)),
+        Keyword::Worker => Some(most_workers(version, purpose)),
+        Keyword::Split => Some(limit_in(version, purpose, 1024, 131_072)),
         Keyword::Doc | Keyword::Wave | Keyword::Done | Keyword::Fail => Some(65_536),
         Keyword::Withdraw | Keyword::Die | Keyword::Join | Keyword::Add => Some(65_536),
         Keyword::Lose | Keyword::Sweep | Keyword::Reduce | Keyword::Copies => Some(65_536),
@@ -72,22 +72,25 @@ pub fn most_of(version: Version, purpose: Purpose, keyword: Keyword) -> Option<u
     }
 }
 
-fn most_workers(purpose: Purpose) -> usize
-    ensures { result ≡ workers purpose }
+fn most_workers(version: Version, purpose: Purpose) -> usize
+    ensures { result ≡ workers version purpose }
 {
     match purpose {
-        Purpose::Checking | Purpose::Planning | Purpose::Playing => 256,
+        Purpose::Checking | Purpose::Planning | Purpose::Playing => {
+            limit_in(version, purpose, 256, 32_768)
+        }
         Purpose::Running => 32,
     }
 }
 
-fn most_splits(version: Version, purpose: Purpose) -> usize
-    ensures { result ≡ splits version purpose }
+// The greater of two limits, `more`, holds in version 3, of a text that is read to plan, or to check a plan.
+fn limit_in(version: Version, purpose: Purpose, less: usize, more: usize) -> usize
+    ensures { result ≡ limit version purpose less more }
 {
     match (purpose, version) {
-        (Purpose::Checking | Purpose::Planning, Version::Three) => 131_072,
-        (Purpose::Checking | Purpose::Planning, Version::One | Version::Two) => 1024,
-        (Purpose::Playing | Purpose::Running, _) => 1024,
+        (Purpose::Checking | Purpose::Planning, Version::Three) => more,
+        (Purpose::Checking | Purpose::Planning, Version::One | Version::Two) => less,
+        (Purpose::Playing | Purpose::Running, _) => less,
     }
 }
 

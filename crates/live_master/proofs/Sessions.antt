@@ -24,7 +24,7 @@ use Rattle.master_state.specs.declared.answers.Why.TheVariants.{HistoryFull}
 use Rattle.master_state.specs.declared.states.Start.{Start}
 use Rattle.report_lines.specs.Lines.{ignored_line}
 use Rattle.script_text.specs.Commands.{IsKnownIn, SaysCommand}
-use Rattle.script_text.specs.Heads.{MakesHead}
+use Rattle.script_text.specs.Heads.{FitMaster, MakesHead}
 use Rattle.script_text.specs.Ready.{AreFew, IsWholeCommand, told_names}
 use Rattle.script_text.specs.Scripts.{IsOfHead, IsOpening}
 use Rattle.script_text.specs.declared.script.Command.{Command}
@@ -32,6 +32,7 @@ use Rattle.script_text.specs.declared.script.Command.TheVariants as command
 use Rattle.script_text.specs.declared.script.Names.{Names}
 use Rattle.script_text.specs.declared.script.ScriptText.{ScriptText}
 use Rattle.script_text.proofs.OneLine.{known_line, ready_line}
+use Rattle.script_text.proofs.Read.{fit_master-read}
 use Rattle.job_play.specs.Given.{HasRuns, HoldsRuns}
 use Rattle.job_play.specs.PlayAnswer.{cluster_in}
 use Rattle.job_play.specs.Playing.{Ended, Performed}
@@ -71,6 +72,9 @@ module _ (text : Line) (read : ScriptText) (k : Known) (opening : IsOpening text
   tidy : AreTidy k.rows
   tidy = subst AreTidy rows_same (tidy-read Playing text opening.ended opening.read)
 
+  fit_master : FitMaster k.rows
+  fit_master = subst FitMaster rows_same (fit_master-read Playing text opening.ended (inl refl) opening.read)
+
   told : read.script.names ≡ told_names k.rows
   told = names_told ∙ ap told_names rows_same
 
@@ -80,7 +84,7 @@ module _ (text : Line) (read : ScriptText) (k : Known) (opening : IsOpening text
       arith,
       ap (λ (n : Names). length n.workers) told,
       length-map (rows_of Worker k.rows) (nth_word 0),
-      tidy.few_workers,
+      fit_master.few_workers,
     );
     splits = omega (
       arith,
@@ -303,11 +307,19 @@ module _ (live : Live) (line : Line) (s : Statement) (named : IsNamedBy live)
   whole_line other = subst (λ (names : Names). IsWholeCommand names s) (sym named.told)
       (ready_line live.known line s fit named.playing named.body other)
 
+  few_workers : length (rows_of Worker live.known.rows) ≤ 256
+  few_workers = omega (
+    arith,
+    ap (λ (n : Names). length n.workers) named.told,
+    length-map (rows_of Worker live.known.rows) (nth_word 0),
+    named.few.workers,
+  )
+
   pub known_command : (c : Command) → SaysCommand live.names s c → IsKnownCommand live.job.setup c
   known_command c says =
       subst (λ (n : ℕ). IsKnownIn (length live.job.setup.cluster.slots) n c) named.splits
       (subst (λ (n : ℕ). IsKnownIn n (length live.names.splits) c) named.workers
-      (known_line live.known line s fit named.playing named.body named.tidy live.names c says))
+      (known_line live.known line s fit named.playing named.body few_workers live.names c says))
 
 module _ (old new : Session) (s : Statement) (before now : List ℕ) where
   pub obeys_command : (c : Command) → SaysCommand old.script.names s c → PerformedLive old c before now new

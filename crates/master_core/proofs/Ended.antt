@@ -144,7 +144,8 @@ module _ {m : Inside} {j : Job} {a k w : ℕ} (was : IsMaster m) (is : job_of m 
           arith,
           (split_slot run).known,
           length-each (setup_of m) (state_of m) was.kept.whole was.kept.tidy,
-          was.kept.whole.tree.workers,
+          was.kept.whole.racks,
+          was.kept.whole.few_workers,
         ),
       )
 

@@ -1,5 +1,6 @@
 -- The problem of a master's present state.
 use Rattle.std.proofs.Common.{◌≡◌, ℕ, List, length, map, refl, sym, ap, ◌∙◌, subst}
+use Rattle.node_ids.specs.Sets.{marked_rows}
 use Rattle.rack_tree.specs.Tree.{Tree}
 use Rattle.wave_problem.specs.declared.lines.WorkerLine.{WorkerLine}
 use Rattle.wave_problem.specs.Wave.{Split, Wave, IsWithinLimits, wave_from}
@@ -13,24 +14,34 @@ use Rattle.master_tables.specs.Lines.{split_lines}
 
 -- its parts, as a master's tables have them
 pub record AreParts (m : Inside) (tree : Tree) (workers : List WorkerLine) (splits : List Split)
-    (barred : List ℕ) : Type 0 where
+    (barred : List (List ℕ)) : Type 0 where
   pub tree_is : tree ≡ m.cluster.tree
   pub workers_are : workers ≡ map worker_line m.workers.each
   pub splits_are : splits ≡ split_lines m.cluster.splits (map shown_as m.splits.items) m.holders
-  pub barred_are : barred ≡ m.workers.barred
+  pub barred_are : barred
+      ≡ marked_rows m.workers.barred (length m.cluster.splits) (length m.cluster.slots)
 
 pub problem_is : (m : Inside) (tree : Tree) (workers : List WorkerLine) (splits : List Split)
-    (barred : List ℕ) → AreParts m tree workers splits barred →
+    (barred : List (List ℕ)) → AreParts m tree workers splits barred →
     wave_from tree workers splits barred ≡ problem_of (setup_of m) (state_of m)
 problem_is m tree workers splits barred parts =
     rw (parts.tree_is, parts.workers_are, parts.splits_are, parts.barred_are) refl
 
 pub parts_within : (m : Inside) (tree : Tree) (workers : List WorkerLine) (splits : List Split)
-    (barred : List ℕ) → IsMaster m → AreParts m tree workers splits barred →
+    (barred : List (List ℕ)) → IsMaster m → AreParts m tree workers splits barred →
     IsWithinLimits (wave_from tree workers splits barred)
 parts_within m tree workers splits barred was parts =
     subst IsWithinLimits (sym (problem_is m tree workers splits barred parts))
     (within_limits (setup_of m) (state_of m) was.kept.whole was.kept.tidy)
+
+-- its barred pairs, for as many lines as the tables have workers
+pub bars_are : (m : Inside) (lines : List WorkerLine) (splits : List Split) (table : List ℕ) → IsMaster m →
+    map worker_line m.workers.each ≡ lines → splits ≡ m.cluster.splits → table ≡ m.workers.barred →
+    (problem_of (setup_of m) (state_of m)).barred ≡ marked_rows table (length splits) (length lines)
+bars_are m lines splits table was lines_are splits_are table_is =
+    let count : length lines ≡ length m.cluster.slots =
+    sym (ap length lines_are) ∙ length-workers (setup_of m) (state_of m) was.kept.tidy in
+    rw (splits_are, table_is, count) refl
 
 -- it has the sizes of the cluster
 pub splits_of_problem : (m : Inside) (j : Job) (problem : Wave) → IsMaster m → job_of m ≡ j →

@@ -23,6 +23,7 @@ whole_from racks slots copied splits texts parts silence same within workers of 
     (record {
       tree = within;
       racks = workers;
+      few_workers = few.few_workers;
       slots = few.few_slots;
       few_splits = few.few_splits;
       small = few.small_splits;

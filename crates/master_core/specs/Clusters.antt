@@ -7,7 +7,7 @@ use Rattle.wave_problem.specs.declared.TheConstants.{MAX_SLOTS}
 use Rattle.wave_problem.specs.Wave.{Split, IsSmall}
 use Rattle.word_map.specs.Texts.{SplitDocuments}
 use Rattle.shuffle_reduce.specs.Gather.{values_of}
-use Rattle.master_state.specs.declared.TheConstants.{MAX_JOB_SPLITS}
+use Rattle.master_state.specs.declared.TheConstants.{MAX_JOB_SPLITS, MAX_JOB_WORKERS}
 use Rattle.master_state.specs.States.{Cluster}
 
 -- the cluster of these parts
@@ -25,9 +25,11 @@ cluster_from tree slots splits texts parts silence = record {
 abbrev pub documents_in : List SplitDocuments → ℕ
 documents_in texts = sum_by (λ text. length text.documents) texts
 
--- each worker has few slots, the splits are few and small, and the documents and the parts are few
+-- the workers are few and have few slots, the splits are few and small, and the documents and the parts are
+-- few
 pub record AreFewAndSmall
     (slots : List ℕ) (splits : List Split) (texts : List SplitDocuments) (parts : ℕ) : Type 0 where
+  pub few_workers : length slots ≤ MAX_JOB_WORKERS
   pub few_slots : All (λ n. n ≤ MAX_SLOTS) slots
   pub few_splits : length splits ≤ MAX_JOB_SPLITS
   pub small_splits : All IsSmall splits

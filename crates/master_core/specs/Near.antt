@@ -1,5 +1,6 @@
 -- What an engine that is kept from wave to wave has of the master's present state.
 use Rattle.std.specs.Prelude.{ℕ, ◌≡◌, ◌≢◌, ◌<◌, Bool, List, length, map}
+use Rattle.node_ids.specs.Sets.{marked_rows}
 use Rattle.wave_problem.specs.Wave.{Wave}
 use Rattle.tree_flow.specs.declared.nodes.Place.TheVariants.{Unshipped}
 use Rattle.tree_flow.specs.State.{place_of}
@@ -13,15 +14,15 @@ use Rattle.master_tables.specs.Lines.{split_lines}
 use Rattle.master_core.specs.declared.kept.Kept.{Kept}
 use Rattle.master_core.specs.declared.kept.Kept.TheVariants.{None, Near, Far}
 
--- the wave has the cluster's tree and bytes, these holders and these barred pairs, in some states of the
--- splits
+-- the wave has the cluster's tree and bytes, these holders and the barred pairs of this table, in some states
+-- of the splits
 pub record HasPlaces (wave : Wave) (cluster : Cluster) (holders : List (List ℕ)) (barred : List ℕ)
     : Type 0 where
   pub tree : wave.tree ≡ cluster.tree
   pub states : List SplitState
   pub sizes : length states ≡ length cluster.splits
   pub splits : wave.splits ≡ split_lines cluster.splits states holders
-  pub barred_are : wave.barred ≡ barred
+  pub barred_are : wave.barred ≡ marked_rows barred (length cluster.splits) (length cluster.slots)
 
 -- an engine that is near stands for such a wave; of one that is far nothing is known
 abbrev pub IsNear : Kept → Cluster → List (List ℕ) → List ℕ → Type 0

@@ -6,7 +6,7 @@ ghost use Rattle.shuffle_reduce.specs.Gather.{values_of};
 ghost use Rattle.master_state.specs.States.{IsWhole};
 ghost use Rattle.master_core.specs.Clusters.{AreFewAndSmall, cluster_from, documents_in};
 
-use master_state::MAX_JOB_SPLITS;
+use master_state::{MAX_JOB_SPLITS, MAX_JOB_WORKERS};
 use rack_tree::RackTree;
 use std::alloc::Global;
 use std::marker::Model;
@@ -24,8 +24,8 @@ pub const MAX_DOCUMENTS: usize = 65_536;
 /// Why a cluster was not made. It is tested in this order.
 #[derive(Clone, Copy, Debug, PartialEq, Eq, Error)]
 pub enum ClusterError {
-    /// A worker has too many slots, there are too many splits, documents or parts, or a split has too many
-    /// bytes or holders.
+    /// A worker has too many slots, there are too many workers, splits, documents or parts, or a split has
+    /// too many bytes or holders.
     #[error("a limit of the cluster is passed")]
     Limit,
     /// A holder is no worker, or stands twice at a split.
@@ -97,7 +97,8 @@ impl Cluster {
             ↔ (AreFewAndSmall slots.now splits.items (values_of texts.items) parts
             × (AreHeldWell (length slots.now) splits.items → ⊥)) }
         ensures memory { result ≡ Err ClusterError.Memory
-            → AreFewAndSmall slots.now splits.items (values_of texts.items) parts × AreHeldWell (length slots.now) splits.items }
+            → AreFewAndSmall slots.now splits.items (values_of texts.items) parts
+            × AreHeldWell (length slots.now) splits.items }
     {
         if !are_few_and_small(slots, &splits, &texts, parts) {
             return Err(ClusterError::Limit);
@@ -175,7 +176,8 @@ fn are_few_and_small(
 ) -> bool
     ensures { IsTrue result ↔ AreFewAndSmall slots.now splits.now (values_of texts.now) parts }
 {
-    have_few_slots(slots)
+    slots.len() <= MAX_JOB_WORKERS
+        && have_few_slots(slots)
         && splits.len() <= MAX_JOB_SPLITS
         && are_small_splits(splits)
         && have_few_documents(texts)

@@ -9,7 +9,7 @@ use Rattle.wave_problem.specs.declared.TheConstants.{MAX_SLOTS}
 use Rattle.wave_problem.specs.Wave.{Split, IsSmall, AreHeldWell}
 use Rattle.word_map.specs.Texts.{SplitDocuments}
 use Rattle.worker_table.specs.Workers.{Workers, opening_workers}
-use Rattle.master_state.specs.declared.TheConstants.{MAX_JOB_SPLITS}
+use Rattle.master_state.specs.declared.TheConstants.{MAX_JOB_SPLITS, MAX_JOB_WORKERS}
 use Rattle.master_state.specs.declared.states.Limits.{Limits}
 use Rattle.master_state.specs.declared.states.Start.{Start}
 use Rattle.master_state.specs.declared.states.SplitState.{SplitState}
@@ -71,6 +71,7 @@ worker_of s a = option_map_or (λ start. start.worker) (start_of s a) 0
 pub record IsWhole (c : Cluster) : Type 0 where
   pub tree : tree.IsWithinLimits c.tree
   pub racks : length c.tree.rack_of ≡ length c.slots
+  pub few_workers : length c.slots ≤ MAX_JOB_WORKERS
   pub slots : All (λ n. n ≤ MAX_SLOTS) c.slots
   pub few_splits : length c.splits ≤ MAX_JOB_SPLITS
   pub small : All IsSmall c.splits

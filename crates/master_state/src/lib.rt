@@ -17,3 +17,6 @@ pub use states::{Attempt, Limits, PartState, SplitState, Start, Work};
 
 /// How many splits a job has at most.
 pub const MAX_JOB_SPLITS: usize = 1024;
+
+/// How many workers a job has at most.
+pub const MAX_JOB_WORKERS: usize = 256;

@@ -1,4 +1,5 @@
 ghost use Rattle.std.specs.Prelude.{◌≡◌, ℕ, ◌<◌, ◌≤◌, ◌↔◌, length, map, take, All, IfOk, IsTrue};
+ghost use Rattle.node_ids.specs.Sets.{marked_rows};
 ghost use Rattle.wave_problem.specs.Wave.{IsAdmissible, Wave};
 ghost use Rattle.master_state.specs.Steps.{split_line, worker_line};
 ghost use Rattle.master_tables.specs.Entries.{shown_as};
@@ -6,7 +7,7 @@ ghost use Rattle.master_tables.specs.Lines.{split_lines};
 
 use crate::entries::SplitEntry;
 use block_map::BlockMap;
-use node_ids::{PairSet, SplitNo, WorkerNo};
+use node_ids::{PairTable, SplitNo, WorkerNo};
 use std::alloc::{AllocError, Global};
 use wave_problem::{SplitLine, SplitRef, WorkerLine, free_workers, may_start};
 use worker_table::Worker;
@@ -85,7 +86,7 @@ pub fn split_line<'h>(line: &SplitLine, entry: &SplitEntry, holders: &'h [Worker
 /// looked at.
 pub fn may_any_start(
     workers: &[WorkerLine],
-    barred: &PairSet,
+    barred: &PairTable,
     lines: &[SplitLine],
     entries: &[SplitEntry],
     holders: &BlockMap,
@@ -95,7 +96,8 @@ pub fn may_any_start(
     requires few { length lines.now ≤ 1024 }
     requires workers { length workers.now ≤ 256 }
     requires known { All (All (λ h. h < length workers.now)) holders.now }
-    ensures { (wave : Wave) → wave.workers ≡ workers.now → wave.barred ≡ barred.now
+    ensures { (wave : Wave) → wave.workers ≡ workers.now
+        → wave.barred ≡ marked_rows barred.now (length lines.now) (length workers.now)
         → wave.splits ≡ split_lines lines.now (map shown_as entries.now) holders.now
         → IsTrue result ↔ ((split : ℕ) × (w : ℕ) × IsAdmissible wave split w) }
 {
@@ -106,7 +108,7 @@ pub fn may_any_start(
     for i in 0..lines.len() {
         let split = SplitNo::new(i as u32);
         let line = split_line(&lines[i], &entries[i], holders.holders(split));
-        if may_start(workers, &free, barred, split, &line) {
+        if may_start(workers, &free, &barred.row(split), split, &line) {
             return true;
         }
     }

@@ -75,7 +75,7 @@ fn assert_best(rt: &impl Abort, alloc: Global, job: &mut Job) {
     let new = plan_with(alloc, &problem, NetworkKind::Direct).expect(rt, "no plan");
     let (kept, wave) = job.master.start_best(alloc).expect(rt, "no wave");
     assert!(rt; are_of_one_size(&problem, kept.plan(), kept.prices()));
-    let certified = certify(&problem, kept.plan(), kept.prices());
+    let certified = certify(alloc, &problem, kept.plan(), kept.prices());
     assert_eq!(rt; certified, Ok(new.certified()));
     assert_eq!(rt; wave.cost, new.certified().cost);
 }

@@ -1,6 +1,6 @@
 -- What a call answers where it writes nothing, and what is so then.
-use Rattle.std.specs.Prelude.{ℕ, ◌≡◌, ◌<◌, ◌≤◌, ◌⊎◌, List, length}
-use Rattle.direct_network.specs.declared.network.TheConstants.{MAX_SPLITS as MAX_DIRECT}
+use Rattle.std.specs.Prelude.{ℕ, ◌≡◌, ◌<◌, ◌≤◌, List, length}
+use Rattle.direct_network.specs.declared.network.TheConstants.{MAX_SPLITS, MAX_WORKERS}
 use Rattle.wave_arrays.specs.declared.fit.RowsError.TheVariants.{Racks, Workers, Splits, Bars, Holders}
 use Rattle.wave_arrays.specs.declared.array_rows.WaveRows.{WaveRows}
 use Rattle.wave_arrays.specs.Claims.{AreStartsFit}
@@ -26,22 +26,26 @@ pub record AreSized (rows : WaveRows) (starts splits workers : ℕ) : Type 0 whe
   pub splits_fit : splits ≡ length rows.splits.now
   pub workers_fit : workers ≡ length rows.workers.now
 
+-- the splits and the workers are few enough for the direct network
+pub record IsSmall (rows : WaveRows) : Type 0 where
+  pub few_splits : length rows.splits.now ≤ MAX_SPLITS
+  pub few_workers : length rows.workers.now ≤ MAX_WORKERS
+
+-- there is such a network, and the direct one, which is 1, only for few splits and workers
+abbrev pub IsNetworkFor : WaveRows → ℕ → Type 0
+IsNetworkFor rows network = (network < 2) × (network ≡ 1 → IsSmall rows)
+
 -- all that a plan is given is in order
 pub record IsPlanFit (rows : WaveRows) (network starts splits workers : ℕ) : Type 0 where
   pub rows_fit : AreFit rows
   pub sized : AreSized rows starts splits workers
-  pub known : network < 2
-  pub small : network ≡ 1 → length rows.splits.now ≤ MAX_DIRECT
+  pub known : IsNetworkFor rows network
 
 -- all that a check is given is in order
 pub record IsCheckFit (rows : WaveRows) (starts : List ℕ) (splits workers : ℕ) : Type 0 where
   pub rows_fit : AreFit rows
   pub sized : AreSized rows (length starts) splits workers
   pub known : AreStartsFit (length rows.workers.now) starts
-
--- there is no such network, or it is the direct one, and that is not made for so many splits
-abbrev pub IsNoNetworkFor : ℕ → ℕ → Type 0
-IsNoNetworkFor splits network = (1 < network) ⊎ ((network ≡ 1) × (MAX_DIRECT < splits))
 
 -- what a plan is given has this fault and none before it; memory is wanting only where it has none
 abbrev pub IsFaultOfPlan : WaveRows → ℕ → ℕ → ℕ → ℕ → Fault → Type 0
@@ -50,7 +54,7 @@ IsFaultOfPlan rows network starts splits workers Length =
     AreFit rows × (AreSized rows starts splits workers → ⊥)
 IsFaultOfPlan rows network starts splits workers Starts = ⊥
 IsFaultOfPlan rows network starts splits workers Network =
-    AreFit rows × AreSized rows starts splits workers × IsNoNetworkFor (length rows.splits.now) network
+    AreFit rows × AreSized rows starts splits workers × (IsNetworkFor rows network → ⊥)
 IsFaultOfPlan rows network starts splits workers Memory = IsPlanFit rows network starts splits workers
 
 -- so it is of what a check is given

@@ -113,15 +113,15 @@ fn judge(
     let prices = prices_of(alloc, split_prices, worker_prices)?;
     let plan = plan_of(alloc, starts, rows.workers.len())?;
     let problem = build_problem(alloc, rows)?;
-    Ok(judged(&problem, &plan, &prices))
+    Ok(judged(alloc, &problem, &plan, &prices))
 }
 
-fn judged(problem: &Problem, plan: &Plan, prices: &Prices) -> Verdict
+fn judged(alloc: Global, problem: &Problem, plan: &Plan, prices: &Prices) -> Verdict
     requires few { length problem.now.splits ≤ MAX_SPLITS }
     requires sizes { HasOneSize (claim problem.now plan.now.starts prices.now) plan.now.workers }
     ensures { IsJudged (claim problem.now plan.now.starts prices.now) result }
 {
-    match certify(problem, plan, prices) {
+    match certify(alloc, problem, plan, prices) {
         Ok(certified) => Verdict {
             count: certified.count as u64,
             cost: certified.cost,

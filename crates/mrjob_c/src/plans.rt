@@ -1,9 +1,9 @@
 //! A plan of a wave.
-ghost use Rattle.std.specs.Prelude.{◌≡◌, ◌≢◌, length, IfErr, IfOk, OnOk};
+ghost use Rattle.std.specs.Prelude.{◌≡◌, ◌≢◌, ◌↔◌, length, IfErr, IfOk, IsTrue, OnOk};
 ghost use Rattle.price_certificate.specs.Certificate.{claim, HasOneSize};
 ghost use Rattle.wave_planner.specs.Planned.{IsMadeOver};
 ghost use Rattle.wave_arrays.specs.Rows.{AreFit, wave_in};
-ghost use Rattle.mrjob_c.specs.Status.{IsFaultOfPlan, IsPlanFit, TellsPlanFault};
+ghost use Rattle.mrjob_c.specs.Status.{IsFaultOfPlan, IsPlanFit, IsSmall, TellsPlanFault};
 ghost use Rattle.mrjob_c.specs.Checks.{IsBestBy};
 ghost use Rattle.mrjob_c.specs.Plans.{IsPlanned, kind_in};
 
@@ -111,9 +111,17 @@ fn kind_of(
     }
     match network {
         0 => Ok(NetworkKind::Racks),
-        1 if rows.splits.len() <= direct_network::MAX_SPLITS => Ok(NetworkKind::Direct),
+        1 if is_small(rows) => Ok(NetworkKind::Direct),
         _ => Err(Fault::Network),
     }
+}
+
+// Whether the splits and the workers are few enough for the direct network.
+fn is_small(rows: &WaveRows<'_>) -> bool
+    ensures { IsTrue result ↔ IsSmall rows.now }
+{
+    rows.splits.len() <= direct_network::MAX_SPLITS
+        && rows.workers.len() <= direct_network::MAX_WORKERS
 }
 
 fn plan_fit(alloc: Global, rows: &WaveRows<'_>, kind: NetworkKind) -> Result<Planned, AllocError>
@@ -129,7 +137,7 @@ fn plan_fit(alloc: Global, rows: &WaveRows<'_>, kind: NetworkKind) -> Result<Pla
     let problem = build_problem(alloc, rows)?;
     match plan_with(alloc, &problem, kind) {
         Ok(planned) => Ok(planned),
-        // (a network that is not made for so many splits has been refused)
+        // (a direct network for too many splits or workers has been refused)
         Err(_) => Err(AllocError),
     }
 }

@@ -17,7 +17,7 @@ pub(crate) enum Fault {
     Length,
     // A start is on no worker.
     Starts,
-    // There is no such network, or it is the direct one, and that is not made for so many splits.
+    // There is no such network, or it is the direct one, and that is not made for so many splits or workers.
     Network,
     // There is no memory.
     Memory,

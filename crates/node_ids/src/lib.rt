@@ -10,9 +10,11 @@
 pub mod layout;
 pub mod numbered;
 pub mod numbers;
+pub mod pairs;
 pub mod sets;
 
 pub use layout::Layout;
 pub use numbered::Numbered;
 pub use numbers::{AttemptNo, CentreNo, DocNo, PartNo, RackNo, SplitNo, WorkerNo};
-pub use sets::{PairSet, SplitSet, WorkerSet};
+pub use pairs::{PairSet, PairTable};
+pub use sets::{SplitSet, WorkerSet};

@@ -1,22 +1,19 @@
-ghost use Rattle.std.specs.Prelude.{◌≡◌, ℕ, ◌*◌, ◌^◌, ◌%◌, ◌<◌, ◌⊎◌, ◌↔◌, ◌≤◌, IfOk, IsTrue, false, length, List};
-ghost use Rattle.node_ids.specs.Sets.{AreBelow, Has, HasPair, has_number, place_of_pair, with_number};
-ghost use Rattle.node_ids.specs.Sets.{with_pair, HasRoomFor};
-ghost use Rattle.node_ids.specs.Sets.{no_pairs, no_splits, no_workers};
+ghost use Rattle.std.specs.Prelude.{◌≡◌, ℕ, ◌*◌, ◌<◌, ◌⊎◌, ◌↔◌, ◌≤◌, IsTrue, false, length, List};
+ghost use Rattle.node_ids.specs.Sets.{AreBelow, Has, has_number, no_splits, no_workers, with_number};
 ghost use Rattle.std.specs.Int.{bit_at};
 
 use crate::numbers::{SplitNo, WorkerNo};
-use std::alloc::{AllocError, Global};
 use std::marker::Model;
 
 #[tactic(auto, using(std::proofs::lemmas::Nat::Bits::shr_and_one))]
-fn has_bit(words: &[u64], n: usize) -> bool
+pub(crate) fn has_bit(words: &[u64], n: usize) -> bool
     requires { n < 64 * length words.now }
     ensures { result ≡ has_number words.now n }
 {
     (words[n / 64] >> (n % 64)) & 1 == 1
 }
 
-fn set_bit(words: &mut [u64], n: usize)
+pub(crate) fn set_bit(words: &mut [u64], n: usize)
     requires { n < 64 * length words.old }
     ensures value { words.new ≡ with_number words.old n }
     ensures members { (k : ℕ) → Has words.new k ↔ ((k ≡ n) ⊎ Has words.old k) }
@@ -67,6 +64,13 @@ impl Model for WorkerSet {
 }
 
 impl WorkerSet {
+    // The set of these words.
+    pub(crate) fn from_words(words: [u64; 4]) -> Self
+        ensures { result ≡ words }
+    {
+        WorkerSet { words }
+    }
+
     /// The set without a member.
     pub fn new() -> Self
         ensures value { result ≡ no_workers }
@@ -170,81 +174,5 @@ impl SplitSet {
         ensures { IsTrue result ↔ AreBelow splits self.now }
     {
         are_all_below(&self.words, splits)
-    }
-}
-
-/// A set of pairs of a split and a worker: of so many splits as it has room for, and of 256 workers.
-#[derive(Drop)]
-pub struct PairSet {
-    words: Vec<u64>,
-}
-
-impl Model for PairSet {
-    ghost Value = { List ℕ };
-
-    ghost view = { λ s. s.words.items };
-
-    // (four words for each split)
-    ghost invariant = { λ s. length s.words.items % 4 ≡ 0 };
-}
-
-impl PairSet {
-    /// The set without a member, with room for the pairs of so many splits: 32 bytes for each.
-    pub fn new(alloc: Global, splits: usize) -> Result<PairSet, AllocError>
-        requires { splits < 2 ^ 32 }
-        ensures value { IfOk result (λ set. set ≡ no_pairs splits) }
-        ensures members { IfOk result (λ set. (s w : ℕ) → HasPair set s w → ⊥) }
-    {
-        Ok(PairSet {
-            words: vec![in alloc; 0; 4 * splits]?,
-        })
-    }
-
-    /// A set of the same pairs, with memory of its own.
-    pub fn copy(&self, alloc: Global) -> Result<PairSet, AllocError>
-        ensures { IfOk result (λ set. set ≡ self.now) }
-    {
-        Ok(PairSet {
-            words: self.words.to_vec(alloc)?,
-        })
-    }
-
-    /// Whether the pair is in the set.
-    pub fn has(&self, split: SplitNo, worker: WorkerNo) -> bool
-        requires { worker < 256 }
-        ensures { result ≡ has_number self.now (place_of_pair split worker) }
-    {
-        let place = split.index() * 256 + worker.index();
-        place / 64 < self.words.len() && has_bit(&self.words, place)
-    }
-
-    /// Puts the pair in, if it is not there.
-    pub fn put(&mut self, split: SplitNo, worker: WorkerNo)
-        requires room { HasRoomFor self.old split }
-        requires worker { worker < 256 }
-        ensures value { self.new ≡ with_pair self.old split worker }
-        ensures members { (s w : ℕ) → w < 256 →
-            HasPair self.new s w ↔ (((s ≡ split) × (w ≡ worker)) ⊎ HasPair self.old s w) }
-    {
-        set_bit(&mut self.words, split.index() * 256 + worker.index());
-    }
-
-    /// The workers whose pair with the split is in the set.
-    pub fn row(&self, split: SplitNo) -> WorkerSet
-        ensures below { AreBelow 256 result }
-        ensures members { (w : ℕ) → w < 256 → Has result w ↔ HasPair self.now split w }
-    {
-        let first = 4 * split.index();
-        if first >= self.words.len() {
-            return WorkerSet::new();
-        }
-        WorkerSet {
-            words: [
-                self.words[first],
-                self.words[first + 1],
-                self.words[first + 2],
-                self.words[first + 3],
-            ],
-        }
     }
 }

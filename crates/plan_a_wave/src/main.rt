@@ -70,7 +70,7 @@ pub fn passes(alloc: Global, problem: &Problem) -> Option<bool>
     ensures { IfSome result (λ b. b ≡ true) }
 {
     let planned = plan(alloc, problem).ok()?;
-    Some(certify(problem, planned.plan(), planned.prices()).is_ok())
+    Some(certify(alloc, problem, planned.plan(), planned.prices()).is_ok())
 }
 
 fn print_starts(rt: &impl Print, plan: &Plan) -> io::Result<()> {
@@ -95,7 +95,7 @@ fn print_wave(rt: &impl Print, alloc: Global, problem: &Problem) -> io::Result<(
     let Ok(planned) = plan(alloc, problem) else {
         return Ok(());
     };
-    let verdict = certify(problem, planned.plan(), planned.prices());
+    let verdict = certify(alloc, problem, planned.plan(), planned.prices());
     print_plan(rt, &planned)?;
     if verdict.is_ok() {
         println!(rt; "certified")?;

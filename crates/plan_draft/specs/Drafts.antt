@@ -102,7 +102,7 @@ said names d s = said_after names d s.keyword s.words
 pub record IsSound (starts splits workers : List (Option ℕ)) : Type 0 where
   pub one_size : length starts ≡ length splits
   pub few_splits : length splits ≤ 131072
-  pub few_workers : length workers ≤ 256
+  pub few_workers : length workers ≤ 32768
   pub known : All (λ start. IfSome start (λ w. w < length workers)) starts
 
 -- as many splits and workers are named as the draft is of

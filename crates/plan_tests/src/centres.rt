@@ -27,7 +27,7 @@ fn told(rt: &impl Abort, alloc: Global, row: Row<'_>) -> (u64, Result<Certified,
     let plan = plan_of(rt, alloc, row.starts, row.workers.len());
     let prices = prices_of(rt, alloc, row.split_prices, row.worker_prices);
     assert!(rt; are_of_one_size(&problem, &plan, &prices));
-    (problem.reward(), certify(&problem, &plan, &prices))
+    (problem.reward(), certify(alloc, &problem, &plan, &prices))
 }
 
 #[test]

@@ -88,15 +88,16 @@ pub fn split_lines(alloc: Global, rows: &[SplitRow<'_>]) -> Option<Vec<SplitLine
     Some(lines)
 }
 
-/// The set of these pairs of a split and a worker, where all are in range.
+/// The set of these pairs of a split and a worker, where all splits are in range.
 pub fn pairs(alloc: Global, rows: &[(u16, u16)]) -> Option<PairSet> {
     let mut barred = PairSet::new(alloc, 1024).ok()?;
     for s in 0..rows.len() {
         let (split, worker) = rows[s];
-        if split >= 1024 || worker >= 256 {
+        if split >= 1024 {
             return None;
         }
-        barred.put(SplitNo::new(u32::from(split)), WorkerNo::new(worker));
+        let split = SplitNo::new(u32::from(split));
+        barred.put(split, WorkerNo::new(worker)).ok()?;
     }
     Some(barred)
 }

@@ -1,4 +1,4 @@
-use crate::clusters::{empty_racks, tree, tree_in};
+use crate::clusters::{tree, tree_in};
 use node_ids::{CentreNo, RackNo, WorkerNo};
 use rack_tree::{MAX_CENTRES, MAX_RACKS, MAX_WORKERS, RackTree, TreeError};
 use std::alloc::Global;
@@ -41,24 +41,56 @@ fn distances_between_centres(rt: HostRuntime) {
     }
 }
 
-// A tree of as many data centres, racks and workers as there may be.
-fn full(rt: &impl Abort, alloc: Global) -> RackTree {
-    let mut tree = empty_racks(rt, alloc, (MAX_CENTRES as u8, &[7; MAX_RACKS]));
-    for _ in 0..MAX_WORKERS {
-        assert!(rt; tree.racks() > 7);
-        tree.add_worker(RackNo::new(7)).expect(rt, "no worker");
+// As many data centres as there may be.
+fn all_centres(rt: &impl Abort, alloc: Global) -> RackTree {
+    let mut tree = RackTree::new(alloc);
+    for _ in 0..MAX_CENTRES {
+        tree.add_centre().expect(rt, "no centre");
     }
     tree
+}
+
+// The last of them with as many racks as there may be.
+fn all_racks(rt: &impl Abort, alloc: Global) -> RackTree {
+    let mut tree = all_centres(rt, alloc);
+    for _ in 0..MAX_RACKS {
+        assert!(rt; tree.centres() > 255);
+        tree.add_rack(CentreNo::new(255)).expect(rt, "no rack");
+    }
+    tree
+}
+
+// The last of these with as many workers as there may be.
+fn full(rt: &impl Abort, alloc: Global) -> RackTree {
+    let mut tree = all_racks(rt, alloc);
+    for _ in 0..MAX_WORKERS {
+        assert!(rt; tree.racks() > 4095);
+        tree.add_worker(RackNo::new(4095)).expect(rt, "no worker");
+    }
+    tree
+}
+
+// What comes of one more of each.
+fn one_more(rt: &impl Abort, tree: &mut RackTree) -> [Option<TreeError>; 3] {
+    assert!(rt; tree.centres() > 255 && tree.racks() > 4095);
+    [
+        tree.add_centre().err(),
+        tree.add_rack(CentreNo::new(255)).err(),
+        tree.add_worker(RackNo::new(4095)).err(),
+    ]
+}
+
+// How many there are of each, and the distance of the first worker from the last.
+fn sizes(rt: &impl Abort, tree: &RackTree) -> (usize, usize, usize, u8) {
+    assert!(rt; tree.workers() > 32_767);
+    let distance = tree.distance(WorkerNo::new(0), WorkerNo::new(32_767));
+    (tree.centres(), tree.racks(), tree.workers(), distance)
 }
 
 #[test]
 fn a_tree_has_its_limits(rt: HostRuntime) {
     let mut tree = full(&rt, rt.alloc());
-    assert!(rt; tree.centres() > 7 && tree.racks() > 7);
-    let refused = [
-        tree.add_centre().err(),
-        tree.add_rack(CentreNo::new(7)).err(),
-        tree.add_worker(RackNo::new(7)).err(),
-    ];
+    let refused = one_more(&rt, &mut tree);
     assert_eq!(rt; refused, [Some(TreeError::Limit); 3]);
+    assert_eq!(rt; sizes(&rt, &tree), (256, 4096, 32_768, 2));
 }

@@ -16,7 +16,8 @@ fn assert_best(rt: &impl Abort, alloc: Global, small: &Small) {
         cost: best.cost,
     };
     let (plan, prices) = plan(alloc, &problem).expect(rt, "no plan");
-    assert_eq!(rt; certify(&problem, &plan, &prices), Ok(want));
+    let certified = certify(alloc, &problem, &plan, &prices);
+    assert_eq!(rt; certified, Ok(want));
 }
 
 #[test]

@@ -25,7 +25,8 @@ fn assert_best(rt: &impl Abort, alloc: Global, engine: &mut Engine, small: &Smal
         cost: best.cost,
     };
     let (plan, prices) = engine.plan(alloc).expect(rt, "no plan");
-    assert_eq!(rt; certify(engine.problem(), &plan, &prices), Ok(want));
+    let certified = certify(alloc, engine.problem(), &plan, &prices);
+    assert_eq!(rt; certified, Ok(want));
 }
 
 // A slot of a live worker comes back.

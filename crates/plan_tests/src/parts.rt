@@ -1,6 +1,6 @@
 //! What is told of the parts of a problem before it is made.
-use crate::clusters::{pairs, split_lines, worker_lines};
-use node_ids::{PairSet, SplitNo};
+use crate::clusters::{split_lines, worker_lines};
+use node_ids::{SplitNo, WorkerNo, WorkerSet};
 use std::process::Abort;
 use wave_problem::{
     MAX_BYTES, SplitLine, WorkerLine, are_held_well, are_small_splits, free_workers, may_start,
@@ -21,20 +21,22 @@ fn splits_are_told_by_limits_and_holders(rt: HostRuntime) {
     }
 }
 
-// Whether the first split may start on any of the workers.
+// Whether the first split may start on any of the workers but one.
 fn first_may_start(
     rt: &impl Abort,
     workers: &[WorkerLine],
-    barred: &PairSet,
+    barred: u16,
     splits: &[SplitLine],
 ) -> bool {
-    assert!(rt; workers.len() <= 256 && splits.len() == 1);
+    assert!(rt; workers.len() <= 256 && splits.len() == 1 && barred < 256);
     assert!(rt; are_held_well(workers.len(), splits));
     let line = splits[0].lent();
+    let mut barred_on = WorkerSet::new();
+    barred_on.put(WorkerNo::new(barred));
     may_start(
         workers,
         &free_workers(workers),
-        barred,
+        &barred_on,
         SplitNo::new(0),
         &line,
     )
@@ -53,8 +55,7 @@ fn a_split_may_start_where_a_worker_may_take_it(rt: HostRuntime) {
         (true, 0, 1, false),
     ] {
         let splits = split_lines(alloc, &[(10, pending, &[holder])]).expect(&rt, "no splits");
-        let barred = pairs(alloc, &[(0, barred)]).expect(&rt, "no pairs");
-        let told = first_may_start(&rt, &workers, &barred, &splits);
+        let told = first_may_start(&rt, &workers, barred, &splits);
         assert_eq!(rt; (pending, holder, told), (pending, holder, want));
     }
 }

@@ -1,6 +1,6 @@
 use crate::random::Random;
 use crate::small::{NONE, ONE_CENTRE, Row, Small, Value};
-use crate::small_problems::{of, one_host, one_host_past_direct};
+use crate::small_problems::{of, one_host, one_split_past_direct, workers_past_direct};
 use certificate_checker::{Certified, certify};
 use node_ids::{SplitNo, WorkerNo};
 use price_certificate::Prices;
@@ -22,7 +22,7 @@ fn assert_certified(
         count: want.count,
         cost: want.cost,
     };
-    let certified = certify(problem, planned.plan(), planned.prices());
+    let certified = certify(alloc, problem, planned.plan(), planned.prices());
     assert_eq!(rt;
         (kind, planned.certified(), certified),
         (kind, want, Ok(want))
@@ -268,14 +268,29 @@ fn one_host_by_pairs(rt: HostRuntime) {
     }
 }
 
-// All but one start, four steps away, and no network of pairs is built.
-#[test]
-fn one_host_past_the_direct_network(rt: HostRuntime) {
-    let alloc = rt.alloc();
-    let problem = one_host_past_direct(&rt, alloc);
-    assert_certified(&rt, alloc, &problem, NetworkKind::Racks, all_started(4096));
-    let error = plan_with(alloc, &problem, NetworkKind::Direct).err();
+// That the problem is planned over the tree, and that neither network is built for it.
+fn assert_past_networks(rt: &impl Abort, alloc: Global, problem: &Problem, want: Value) {
+    assert_certified(rt, alloc, problem, NetworkKind::Racks, want);
+    let error = plan_with(alloc, problem, NetworkKind::Direct).err();
     assert_eq!(rt; error, Some(PlanError::Size));
-    assert!(rt; direct_network::build(alloc, &problem).is_err());
-    assert!(rt; rack_network::build(alloc, &problem).is_err());
+    assert!(rt; direct_network::build(alloc, problem).is_err());
+    assert!(rt; rack_network::build(alloc, problem).is_err());
+}
+
+// All splits but one start, four steps away.
+#[test]
+fn one_split_past_the_networks(rt: HostRuntime) {
+    let problem = one_split_past_direct(&rt, rt.alloc());
+    assert_past_networks(&rt, rt.alloc(), &problem, all_started(4096));
+}
+
+// All splits start, four steps away.
+#[test]
+fn workers_past_the_networks(rt: HostRuntime) {
+    let problem = workers_past_direct(&rt, rt.alloc());
+    let want = Value {
+        count: 20,
+        cost: 80,
+    };
+    assert_past_networks(&rt, rt.alloc(), &problem, want);
 }

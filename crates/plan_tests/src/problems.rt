@@ -2,7 +2,7 @@ use crate::clusters::{WorkerRow, made};
 use node_ids::{SplitNo, WorkerNo};
 use std::alloc::Global;
 use std::process::Abort;
-use wave_problem::{MAX_BYTES, Problem, ProblemError, SplitCosts};
+use wave_problem::{MAX_BYTES, Problem, ProblemError};
 
 // Workers 0 and 1 in one rack and 2 in another, the last one dead, with so many slots each.
 fn three_workers(free: u8) -> [WorkerRow; 3] {
@@ -45,24 +45,15 @@ pub fn three_splits(rt: &impl Abort, alloc: Global) -> Problem {
     made(rt, alloc, &three_workers(1), &splits, &[(1, 1)]).expect(rt, "no problem")
 }
 
-// The cost of a start and whether it is admissible, as the problem tells them and as the split does.
-fn costs_of(
-    rt: &impl Abort,
-    problem: &Problem,
-    split: u32,
-    worker: u16,
-) -> [(Option<u64>, bool); 2] {
+// The cost of a start and whether it is admissible.
+fn cost_of(rt: &impl Abort, problem: &Problem, split: u32, worker: u16) -> (Option<u64>, bool) {
     let split = SplitNo::new(split);
     let worker = WorkerNo::new(worker);
     assert!(rt; split.index() < problem.splits() && worker.index() < problem.workers());
-    let costs = SplitCosts::new(problem, split);
-    [
-        (
-            problem.cost(split, worker),
-            problem.admissible(split, worker),
-        ),
-        (costs.cost(worker), costs.admissible(worker)),
-    ]
+    (
+        problem.cost(split, worker),
+        problem.admissible(split, worker),
+    )
 }
 
 #[test]
@@ -78,26 +69,22 @@ fn costs(rt: HostRuntime) {
         (2, 0, None, false),
         (2, 2, None, false),
     ] {
-        let told = costs_of(&rt, &problem, split, worker);
-        assert_eq!(rt;
-            (split, worker, told),
-            (split, worker, [(cost, admissible); 2])
-        );
+        let told = cost_of(&rt, &problem, split, worker);
+        assert_eq!(rt; (split, worker, told), (split, worker, (cost, admissible)));
     }
 }
 
-// The bytes of split 1, whether it is pending and whether a holder of it lives; whether it and split 2 are
-// open; and whether worker 0 alone holds it.
-fn told_of_splits(rt: &impl Abort, problem: &Problem) -> (u64, bool, bool, [bool; 2], bool) {
+// The bytes of split 1, and whether it is pending; whether a holder of it and one of split 2 lives; and
+// whether worker 0 alone holds it.
+fn told_of_splits(rt: &impl Abort, problem: &Problem) -> (u64, bool, [bool; 2], bool) {
     let split = SplitNo::new(1);
     assert!(rt; problem.splits() == 3);
     (
         problem.bytes(split),
         problem.is_pending(split),
-        problem.has_live_holder(split),
         [
-            SplitCosts::new(problem, split).is_open(),
-            SplitCosts::new(problem, SplitNo::new(2)).is_open(),
+            problem.has_live_holder(split),
+            problem.has_live_holder(SplitNo::new(2)),
         ],
         problem.holders(split) == [WorkerNo::new(0)].as_slice(),
     )
@@ -107,12 +94,12 @@ fn told_of_splits(rt: &impl Abort, problem: &Problem) -> (u64, bool, bool, [bool
 fn splits(rt: HostRuntime) {
     let problem = three_splits(&rt, rt.alloc());
     let told = told_of_splits(&rt, &problem);
-    assert_eq!(rt; told, (20, true, true, [true, false], true));
+    assert_eq!(rt; told, (20, true, [true, false], true));
 }
 
-// The racks, and the free slots of worker 1; whether it and worker 2 live; and whether splits 1 and 0 may not
-// start on it.
-fn told_of_workers(rt: &impl Abort, problem: &Problem) -> (usize, u8, [bool; 2], [bool; 2]) {
+// The racks, and the free slots of worker 1; whether it and worker 2 live; whether splits 1 and 0 may not
+// start on it; and whether split 1 may not start on it alone.
+fn told_of_workers(rt: &impl Abort, problem: &Problem) -> (usize, u8, [bool; 2], [bool; 2], bool) {
     let worker = WorkerNo::new(1);
     assert!(rt; problem.splits() == 3 && problem.workers() == 3);
     (
@@ -123,6 +110,7 @@ fn told_of_workers(rt: &impl Abort, problem: &Problem) -> (usize, u8, [bool; 2],
             problem.is_barred(SplitNo::new(1), worker),
             problem.is_barred(SplitNo::new(0), worker),
         ],
+        problem.bars(SplitNo::new(1)) == [worker].as_slice(),
     )
 }
 
@@ -130,5 +118,5 @@ fn told_of_workers(rt: &impl Abort, problem: &Problem) -> (usize, u8, [bool; 2],
 fn workers(rt: HostRuntime) {
     let problem = three_splits(&rt, rt.alloc());
     let told = told_of_workers(&rt, &problem);
-    assert_eq!(rt; told, (2, 1, [true, false], [true, false]));
+    assert_eq!(rt; told, (2, 1, [true, false], [true, false], true));
 }

@@ -55,7 +55,7 @@ fn barred_pairs(alloc: Global, splits: &[Split]) -> Result<PairSet, AllocError> 
     for s in 0..splits.len().min(1024) {
         for w in 0..4u16 {
             if splits[s].barred_on[usize::from(w)] {
-                barred.put(SplitNo::new(s as u32), WorkerNo::new(w));
+                barred.put(SplitNo::new(s as u32), WorkerNo::new(w))?;
             }
         }
     }
@@ -92,8 +92,15 @@ pub fn one_host(rt: &impl Abort, alloc: Global, bytes: u64) -> Problem {
 }
 
 /// The same with one split more, of one byte each.
-pub fn one_host_past_direct(rt: &impl Abort, alloc: Global) -> Problem {
+pub fn one_split_past_direct(rt: &impl Abort, alloc: Global) -> Problem {
     one_host_of(rt, alloc, &[on_first(1); 1025])
+}
+
+/// A worker without slots holds 20 splits of one byte; 299 workers of 16 slots stand in another rack.
+pub fn workers_past_direct(rt: &impl Abort, alloc: Global) -> Problem {
+    let mut workers = [FAR; 300];
+    workers[0] = HOST;
+    problem(rt, alloc, (1, &[0, 0]), &workers, &[on_first(1); 20])
 }
 
 // A split of so many bytes on the first worker.
@@ -106,17 +113,20 @@ fn on_first(bytes: u64) -> Split {
     }
 }
 
+const HOST: Worker = Worker {
+    rack: 0,
+    live: true,
+    free: 0,
+};
+
+const FAR: Worker = Worker {
+    rack: 1,
+    live: true,
+    free: 16,
+};
+
 fn one_host_of(rt: &impl Abort, alloc: Global, splits: &[Split]) -> Problem {
-    let far = Worker {
-        rack: 1,
-        live: true,
-        free: 16,
-    };
-    let mut workers = [far; 65];
-    workers[0] = Worker {
-        rack: 0,
-        live: true,
-        free: 0,
-    };
+    let mut workers = [FAR; 65];
+    workers[0] = HOST;
     problem(rt, alloc, (1, &[0, 0]), &workers, splits)
 }

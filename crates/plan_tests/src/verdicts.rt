@@ -50,7 +50,7 @@ fn answers<R: Abort + Threads + Sync>(
 ) -> Answers {
     assert!(rt; are_of_one_size(problem, plan, prices));
     (
-        certify(problem, plan, prices),
+        certify(alloc, problem, plan, prices),
         certify_on(rt, alloc, problem, plan, prices),
     )
 }

@@ -1,6 +1,6 @@
 -- Names and their numbers, and the pairs that are barred.
 use Rattle.std.proofs.Common.{ℕ, List, [], ◌∷◌, ◌++◌, ◌≡◌, ◌≢◌, ◌<◌, ◌⊎◌, ◌∙◌, arith, Bool, true, false}
-use Rattle.std.proofs.Common.{true≢false, inl, inr, length, max, sym, ap, refl, Option, Some, None, unwrap_or}
+use Rattle.std.proofs.Common.{true≢false, inl, inr, length, max, sym, ap, refl, subst, Option, Some, None, unwrap_or}
 use Rattle.std.specs.Prelude.{◌↔◌, IsTrue}
 use Rattle.std.specs.List.{Contains, position, position_or_len, slice_index_or}
 use Rattle.std.specs.Str.{bytes_eq}
@@ -12,9 +12,7 @@ use Rattle.std.proofs.lemmas.Slice.Eq.{bytes_eq-Decides}
 use Rattle.node_ids.proofs.Positions.{position_found}
 use Rattle.text_lines.proofs.Keys.{found}
 use Rattle.text_lines.specs.Texts.{Word}
-use Rattle.line_shapes.specs.Lines.{Statement}
-use Rattle.plan_text.specs.Names.{nth_word}
-use Rattle.plan_text.specs.Value.{IsBarred, number_in, stands_in}
+use Rattle.plan_text.specs.Value.{number_in, stands_in}
 
 -- where a name stands first
 abbrev first : List Word → Word → ℕ
@@ -63,22 +61,18 @@ pub stands_by : (b : Bool) (names : List Word) (name : Word) → (IsTrue b ↔ C
 stands_by b names name test =
     same_truth b (stands_in names name) test (found bytes_eq bytes_eq-Decides name names)
 
--- the line barred with those before it
-pub one_more_barred : (splits workers : List Word) (front : List Statement) (line : Statement) (s w : ℕ)
-    (New Old : Type 0)
-    → (New ↔ (((s ≡ number_in splits (nth_word 0 line)) × (w ≡ number_in workers (nth_word 1 line))) ⊎ Old))
-    → (Old ↔ IsBarred splits workers front s w)
-    → New ↔ IsBarred splits workers (front ++ line ∷ []) s w
-one_more_barred splits workers front line s w New Old step before = (
+-- the pairs of a set to which one is put
+pub one_more_pair : (front : List (ℕ × ℕ)) (pair : ℕ × ℕ) (s w : ℕ) (New Old : Type 0)
+    → (New ↔ (((s ≡ pair.0) × (w ≡ pair.1)) ⊎ Old)) → (Old ↔ Contains front (s, w))
+    → New ↔ Contains (front ++ pair ∷ []) (s, w)
+one_more_pair front pair s w New Old step before = (
   λ new. elim (step.0 new) [
-    | inl here ↦ (line, Contains-push front line, sym here.0, sym here.1)
-    | inr old ↦ grind (arith, Contains-append_left)
+    | inl here ↦
+        subst (Contains (front ++ pair ∷ [])) (λ i. (sym here.0 i, sym here.1 i)) (Contains-push front pair)
+    | inr old ↦ Contains-append_left front (pair ∷ []) (s, w) (before.0 old)
   ],
-  λ b. step.1 (elim (Contains-push_cases front line b.0 b.1) [
-    | inl has ↦ inr (before.1 (b.0, has, b.2, b.3))
-    | inr is ↦ inl (
-      sym b.2 ∙ sym (ap (λ t. number_in splits (nth_word 0 t)) is),
-      sym b.3 ∙ sym (ap (λ t. number_in workers (nth_word 1 t)) is),
-    )
+  λ has. step.1 (elim (Contains-push_cases front pair (s, w) has) [
+    | inl early ↦ inr (before.1 early)
+    | inr is ↦ inl (sym (ap (λ (p : ℕ × ℕ). p.0) is), sym (ap (λ (p : ℕ × ℕ). p.1) is))
   ]),
 )

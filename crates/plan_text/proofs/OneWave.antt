@@ -15,7 +15,7 @@ same_parts rows v w a b =
 
 pub same_bars : (rows : List Statement) (v w : Wave) → MakesWave rows v → MakesWave rows w
     → HaveSamePairs v.barred w.barred
-same_bars rows v w a b s n lt = (
-  λ has. (b.barred s n lt).1 ((a.barred s n lt).0 has),
-  λ has. (a.barred s n lt).1 ((b.barred s n lt).0 has),
+same_bars rows v w a b s n = (
+  λ has. (b.barred s n).1 ((a.barred s n).0 has),
+  λ has. (a.barred s n).1 ((b.barred s n).0 has),
 )

@@ -11,12 +11,12 @@ use Rattle.text_lines.specs.Texts.{Line, Word}
 use Rattle.line_shapes.specs.Lines.{Statement}
 use Rattle.line_shapes.specs.Places.{place_at, places_of}
 use Rattle.line_shapes.specs.declared.keyword.Keyword.{Keyword}
-use Rattle.line_shapes.specs.declared.keyword.Keyword.TheVariants.{Split}
+use Rattle.line_shapes.specs.declared.keyword.Keyword.TheVariants.{Centre, Rack, Split, Worker}
 use Rattle.line_shapes.specs.declared.place.Kind.{Kind}
 use Rattle.line_shapes.specs.declared.place.Kind.TheVariants.{Priced}
 use Rattle.line_shapes.specs.declared.place.Place.{Place}
 use Rattle.line_shapes.specs.declared.place.Place.TheVariants.{Used}
-use Rattle.line_rules.specs.Entering.{Key, entered_of, key_of, most_of, most_splits}
+use Rattle.line_rules.specs.Entering.{Key, entered_of, key_of, limit_in, most_of, most_workers}
 use Rattle.line_rules.specs.Faults.{IsFewer, IsDeclaredIn, IsFew, IsFit, IsFirst, Keep}
 use Rattle.line_rules.specs.Known.{HasRow, IsDeclared, Known, entered, is_of, keys_of, known_at, rows_of}
 use Rattle.line_rules.specs.Reading.{AreFitLines, IsAllRead}
@@ -88,22 +88,38 @@ few-more : (purpose : Purpose) (k : Keyword) (rows : List Statement) (s : Statem
     → IsFew (most_of Three purpose k) (count k (rows ++ s ∷ []))
 few-more purpose k rows s few room = grind (arith, keyword_of, few-one, count-more)
 
-splits-newest : (version : Version) (purpose : Purpose) → most_splits version purpose ≤ most_splits Three purpose
-splits-newest One Checking = omega arith
-splits-newest Two Checking = omega arith
-splits-newest Three Checking = omega arith
-splits-newest One Planning = omega arith
-splits-newest Two Planning = omega arith
-splits-newest Three Planning = omega arith
-splits-newest version Playing = omega arith
-splits-newest version Running = omega arith
+-- the greater limit holds in the newest version, if in any
+limit-newest : (version : Version) (purpose : Purpose) (less more : ℕ) → less ≤ more
+    → limit_in version purpose less more ≤ limit_in Three purpose less more
+limit-newest One Checking less more few = few
+limit-newest Two Checking less more few = few
+limit-newest Three Checking less more few = omega arith
+limit-newest One Planning less more few = few
+limit-newest Two Planning less more few = few
+limit-newest Three Planning less more few = omega arith
+limit-newest version Playing less more few = omega arith
+limit-newest version Running less more few = omega arith
+
+workers-newest : (version : Version) (purpose : Purpose)
+    → most_workers version purpose ≤ most_workers Three purpose
+workers-newest version Running = omega arith
+workers-newest version Checking = limit-newest version Checking 256 32768 (omega arith)
+workers-newest version Planning = limit-newest version Planning 256 32768 (omega arith)
+workers-newest version Playing = omega arith
+
+fewer-more : (few many n : ℕ) → few ≤ many → n < few → n < many
+fewer-more few many n le lt = omega (arith, le, lt)
 
 -- where there is room for one more, there is in the newest version
 fewer-newest : (version : Version) (purpose : Purpose) (k : Keyword) (n : ℕ)
     → IsFewer (most_of version purpose k) n → IsFewer (most_of Three purpose k) n
+fewer-newest version purpose Centre n room =
+    fewer-more _ _ n (limit-newest version purpose 8 256 (omega arith)) room
+fewer-newest version purpose Rack n room =
+    fewer-more _ _ n (limit-newest version purpose 32 4096 (omega arith)) room
+fewer-newest version purpose Worker n room = fewer-more _ _ n (workers-newest version purpose) room
 fewer-newest version purpose Split n room =
-    let room : n < most_splits version purpose = room in
-    omega (arith, splits-newest version purpose, room)
+    fewer-more _ _ n (limit-newest version purpose 1024 131072 (omega arith)) room
 fewer-newest version purpose k n room = room
 
 fresh : (rows : List Statement) (s : Statement) → IsFirst rows s → (i : ℕ) (d : Key) →

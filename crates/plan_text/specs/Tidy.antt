@@ -24,9 +24,9 @@ pub record IsTidyRow (rows : List Statement) (s : Statement) : Type 0 where
 
 -- no more lines of a keyword than a text may have, and none entered twice
 pub record AreTidy (rows : List Statement) : Type 0 where
-  pub few_centres : length (rows_of keyword.Centre rows) ≤ 8
-  pub few_racks : length (rows_of keyword.Rack rows) ≤ 32
-  pub few_workers : length (rows_of keyword.Worker rows) ≤ 256
+  pub few_centres : length (rows_of keyword.Centre rows) ≤ 256
+  pub few_racks : length (rows_of keyword.Rack rows) ≤ 4096
+  pub few_workers : length (rows_of keyword.Worker rows) ≤ 32768
   pub few_splits : length (rows_of keyword.Split rows) ≤ 131072
   pub few_documents : length (rows_of keyword.Doc rows) ≤ 65536
   pub differ : AllPairs (λ a b. a ≢ b) (keys_of rows)

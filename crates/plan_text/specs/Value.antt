@@ -1,5 +1,5 @@
 -- The value that the lines of a problem and a plan declare, over whole lists and by names.
-use Rattle.std.specs.Prelude.{ℕ, List, [], ◌≡◌, ◌<◌, ◌↔◌, Bool, not, Option, length, map, max}
+use Rattle.std.specs.Prelude.{ℕ, List, [], ◌≡◌, ◌↔◌, Bool, not, Option, length, map, max}
 use Rattle.std.specs.Prelude.{slice_index_or, unwrap_or}
 use Rattle.std.specs.List.{Contains, list_any, position}
 use Rattle.std.specs.Option.{option_map}
@@ -48,10 +48,13 @@ declared_split workers busy s = record {
   holders = map (number_in workers) (tail_words s);
 }
 
--- `barred SPLIT WORKER`: one of these lines bars the worker w from the split s
+-- `barred SPLIT WORKER`
+abbrev pub declared_bar : List Word → List Word → Statement → ℕ × ℕ
+declared_bar splits workers s = (number_in splits (nth_word 0 s), number_in workers (nth_word 1 s))
+
+-- one of these lines bars the worker w from the split s
 abbrev pub IsBarred : List Word → List Word → List Statement → ℕ → ℕ → Type 0
-IsBarred splits workers barred s w = (line : Statement) × Contains barred line
-    × (number_in splits (nth_word 0 line) ≡ s) × (number_in workers (nth_word 1 line) ≡ w)
+IsBarred splits workers barred s w = Contains (map (declared_bar splits workers) barred) (s, w)
 
 -- `start SPLIT WORKER`: the worker that the split starts on, if one of these lines says so
 abbrev pub start_at : List Word → List Statement → Word → Option ℕ
@@ -76,15 +79,14 @@ declared_tree centres racks workers = record {
   rack_of = map (rack_number (names_in racks)) workers;
 }
 
--- the wave that the rows make. A set of pairs stands as words of bits, so its part is no equation.
+-- the wave that the rows make
 pub record MakesWave (rows : List Statement) (wave : Wave) : Type 0 where
   pub tree : wave.tree ≡ declared_tree (names_of Centre rows) (rows_of Rack rows) (rows_of Worker rows)
   pub workers : wave.workers ≡ map (declared_worker (names_of Dead rows)) (rows_of Worker rows)
   pub splits : wave.splits
       ≡ map (declared_split (names_of Worker rows) (names_of Busy rows)) (rows_of Split rows)
-  pub barred : (s w : ℕ) → w < 256
-      → HasPair wave.barred s w ↔ IsBarred (names_of Split rows) (names_of Worker rows)
-      (rows_of Barred rows) s w
+  pub barred : (s w : ℕ) → HasPair wave.barred s w
+      ↔ IsBarred (names_of Split rows) (names_of Worker rows) (rows_of Barred rows) s w
 
 abbrev pub declared_starts : List Statement → List (Option ℕ)
 declared_starts rows = map (start_at (names_of Worker rows) (rows_of Start rows)) (names_of Split rows)

@@ -1,4 +1,5 @@
-ghost use Rattle.std.specs.Prelude.{◌≡◌, ◌<◌, ◌↔◌, ◌⊎◌, ℕ, All, IfOk, length, map, max};
+ghost use Rattle.std.specs.Prelude.{◌≡◌, ◌<◌, ◌↔◌, ◌⊎◌, ℕ, All, Contains, IfOk, length, map, max};
+ghost use Rattle.std.specs.List.Sorted.{IsPermutation};
 ghost use Rattle.node_ids.specs.Sets.{HasPair};
 ghost use Rattle.price_certificate.specs.Certificate.{HasOneSize, claim};
 ghost use Rattle.line_shapes.specs.Lines.{tail_words};
@@ -7,13 +8,13 @@ ghost use Rattle.line_shapes.specs.declared.keyword.Keyword.TheVariants.{Rack, S
 ghost use Rattle.line_rules.specs.Known.{nth_row, rows_of};
 ghost use Rattle.plan_text.specs.Names.{names_of};
 ghost use Rattle.plan_text.specs.Reading.{MakesPlan, MakesProblem};
-ghost use Rattle.plan_text.specs.Value.{IsBarred, MakesWave, centre_number, declared_split, declared_starts};
-ghost use Rattle.plan_text.specs.Value.{declared_tree, declared_worker, number_in, price_at, prices_in};
-ghost use Rattle.plan_text.specs.Value.{rack_number, start_at};
+ghost use Rattle.plan_text.specs.Value.{IsBarred, MakesWave, centre_number, declared_bar, declared_split};
+ghost use Rattle.plan_text.specs.Value.{declared_starts, declared_tree, declared_worker, number_in, price_at};
+ghost use Rattle.plan_text.specs.Value.{prices_in, rack_number, start_at};
 
 use crate::tidy_rows::TidyRows;
 use line_shapes::Keyword;
-use node_ids::{CentreNo, PairSet, RackNo, WorkerNo};
+use node_ids::{CentreNo, PairSet, RackNo, SplitNo, WorkerNo};
 use price_certificate::Prices;
 use rack_tree::RackTree;
 use std::alloc::{AllocError, Global};
@@ -101,7 +102,7 @@ pub fn build_tree(alloc: Global, rows: &TidyRows<'_, '_>) -> Result<RackTree, Al
     let rack_of = racks_of_workers(alloc, rows)?;
     let centre_of = centres_of_racks(alloc, rows)?;
     let centres = rows.count(Keyword::Centre).max(1);
-    Ok(RackTree::from_lists(alloc, centres, &centre_of, rack_of))
+    Ok(RackTree::from_lists(centres, centre_of, rack_of))
 }
 
 // The rack of each worker.
@@ -187,13 +188,46 @@ fn build_holders(
 }
 
 fn build_barred(alloc: Global, rows: &TidyRows<'_, '_>) -> Result<PairSet, AllocError>
-    ensures { IfOk result (λ set. (s w : ℕ) → w < 256 → HasPair set s w
+    ensures { IfOk result (λ set. (s w : ℕ) → HasPair set s w
         ↔ IsBarred (names_of Split rows.now) (names_of Worker rows.now) (rows_of Barred rows.now) s w) }
 {
-    let mut set = PairSet::new(alloc, rows.count(Keyword::Split))?;
-    for line in 0..rows.count(Keyword::Barred) {
+    let pairs = barred_pairs(alloc, rows)?;
+    set_of(alloc, rows.count(Keyword::Split), &pairs)
+}
+
+// The barred pairs, rising, so that a set takes each behind the pairs of its split.
+fn barred_pairs(
+    alloc: Global,
+    rows: &TidyRows<'_, '_>,
+) -> Result<Vec<(SplitNo, WorkerNo)>, AllocError>
+    ensures same { IfOk result (λ pairs. IsPermutation
+        (map (declared_bar (names_of Split rows.now) (names_of Worker rows.now)) (rows_of Barred rows.now))
+        pairs.items) }
+    ensures within { IfOk result (λ pairs.
+        All (λ pair. pair.0 < length (rows_of Split rows.now)) pairs.items) }
+{
+    let count = rows.count(Keyword::Barred);
+    let mut pairs = Vec::with_capacity(alloc, count)?;
+    for line in 0..count {
         let split = rows.split(rows.word(Keyword::Barred, line, 0));
-        set.put(split, rows.worker(rows.word(Keyword::Barred, line, 1)));
+        pairs.push((split, rows.worker(rows.word(Keyword::Barred, line, 1))))?;
+    }
+    pairs.sort_unstable();
+    Ok(pairs)
+}
+
+// The set of these pairs, of so many splits.
+fn set_of(
+    alloc: Global,
+    splits: usize,
+    pairs: &[(SplitNo, WorkerNo)],
+) -> Result<PairSet, AllocError>
+    requires { All (λ pair. pair.0 < splits) pairs.now }
+    ensures { IfOk result (λ set. (s w : ℕ) → HasPair set s w ↔ Contains pairs.now (s, w)) }
+{
+    let mut set = PairSet::new(alloc, splits)?;
+    for pair in pairs {
+        set.put(pair.0, pair.1)?;
     }
     Ok(set)
 }

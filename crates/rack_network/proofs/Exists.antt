@@ -3,7 +3,7 @@
 use Rattle.std.proofs.Common.{◌≡◌, ℕ, zero, suc, ◌+◌, ◌<◌, ◌≤◌, true, List, [], ◌∷◌, ◌++◌, length, refl, sym}
 use Rattle.std.proofs.Common.{◌∙◌, subst, ◌⊎◌, inl, inr, arith, Contains}
 use Rattle.std.proofs.lemmas.Bool.{cases_Bool, cases_eq, cases_lt, false≢true}
-use Rattle.node_ids.specs.Sets.{has_number, place_of_pair}
+use Rattle.node_ids.specs.Sets.{has_pair}
 use Rattle.flow_network.specs.declared.arcs.FlowArc.{FlowArc}
 use Rattle.flow_network.specs.Flow.{Flow}
 use Rattle.flow_network.proofs.Members.{Contains-nil, Contains-here, Contains-there, Contains-cons}
@@ -17,9 +17,9 @@ use Rattle.rack_network.specs.declared.arcs.RackArc.TheVariants.{Wait, Slot, Res
 use Rattle.rack_network.specs.Racks.{count, start, node, parent, above, unstarted_node, rack_nodes}
 use Rattle.rack_network.specs.Racks.{HasBars, IsDown, IsReach, IsTree, IsUnder, arc_of, IsSized}
 use Rattle.rack_network.specs.Racks.{IsWanted, IsRackNetwork}
-use Rattle.rack_network.specs.Build.{IsBuilt}
+use Rattle.rack_network.specs.Build.{IsBuiltWithin}
 use Rattle.rack_network.specs.Certified.{RackNetworkExists, CertifiedIsOverRacks}
-use Rattle.rack_network.proofs.Heights.{few_columns, level_in, next_level}
+use Rattle.rack_network.proofs.Heights.{next_level}
 use Rattle.rack_network.proofs.Layers.{is_layered}
 use Rattle.rack_network.proofs.RackWays.{bars_or_not, wave_network}
 use Rattle.rack_network.proofs.Rows.{pairs, pairs_past, reaches, inside, wait_step, idle_row, downs}
@@ -32,7 +32,7 @@ module _ (wave : Wave) (tree : IsTree wave) where
     | inr not ↦ inr (λ may. not (may.live, may.has_slot))
     | inl u ↦ elim (cases_lt 0 (length (live_holders wave s))) [
       | inr none ↦ inr (λ may. (let held = may.held in omega arith))
-      | inl held ↦ elim (cases_Bool (has_number wave.barred (place_of_pair s w))) [
+      | inl held ↦ elim (cases_Bool (has_pair wave.barred s w)) [
         | inl barred ↦ inr (λ may. may.not_barred barred)
         | inr free ↦ inl (record {
           pending = pending;
@@ -101,9 +101,9 @@ module _ (wave : Wave) (tree : IsTree wave) where
     ]
   ]
 
-  -- a network that is built as far as a place
+  -- a network that is built as far as a place, and a number of arcs that it does not exceed
   abbrev Made : ℕ → ℕ → Type 0
-  Made u x = (network : Flow RackLayout) × IsBuilt wave u x network
+  Made u x = (network : Flow RackLayout) × (limit : ℕ) × IsBuiltWithin wave u x limit network
 
   -- one with an arc more
   abbrev more : FlowArc → Flow RackLayout → Flow RackLayout
@@ -114,24 +114,27 @@ module _ (wave : Wave) (tree : IsTree wave) where
   }
 
   row_made : {u base n : ℕ} {own : ℕ → RackArc} {holds : ℕ → Type 0}
-      → IsRow (IsWanted wave) (arc_of wave) u base n own holds → length wave.splits ≤ base
+      → IsRow (IsWanted wave) (arc_of wave) u base n own holds
       → ((i : ℕ) → holds i ⊎ (holds i → ⊥)) → (m : ℕ) → m ≤ n → Made u (base + 0) → Made u (base + m)
-  row_made row low decide zero l begun = begun
-  row_made {u} {base} {n} {own} row low decide (suc m) l begun =
-      let before = row_made row low decide m (omega arith) begun in
+  row_made row decide zero l begun = begun
+  row_made {u} {base} {n} {own} row decide (suc m) l begun =
+      let before = row_made row decide m (omega arith) begun in
+      let limit : ℕ = before.1 in
       let next : m + 1 ≡ suc m = omega arith in
       elim (decide m) [
         | inl has ↦
             (let new : Flow RackLayout = more (arc_of wave (own m)) before.0 in (
               new,
-              subst (λ (k : ℕ). IsBuilt wave u (base + k) new) next
-                  (row_step row m m _ _ before.0 new refl (omega arith) (omega arith) has before.1
+              limit + 1,
+              subst (λ (k : ℕ). IsBuiltWithin wave u (base + k) (limit + 1) new) next
+                  (row_step row m m limit (limit + 1) before.0 new refl (omega arith) (omega arith) has before.2
                   (refl, refl, refl)),
             ))
         | inr not ↦ (
           before.0,
-          subst (λ (k : ℕ). IsBuilt wave u (base + k) before.0) next
-              (row_skip row m m _ _ before.0 refl (omega arith) (omega arith) not before.1),
+          limit,
+          subst (λ (k : ℕ). IsBuiltWithin wave u (base + k) limit before.0) next
+              (row_skip row m m limit limit before.0 refl (omega arith) (omega arith) not before.2),
         )
       ]
 
@@ -140,31 +143,35 @@ module _ (wave : Wave) (tree : IsTree wave) where
     reaches_made : (HasBars wave s → ⊥) → (level x : ℕ) → x ≡ start wave level + 0 → Made s x
         → Made s (start wave level + count wave level)
     reaches_made no_bars level x here begun =
-        row_made (reaches wave s level split no_bars) (level_in wave level).0
-        (λ i. reach_or_not s level i pending no_bars) (count wave level) (omega arith)
-        (subst (Made s) here begun)
+        row_made (reaches wave s level split no_bars) (λ i. reach_or_not s level i pending no_bars)
+        (count wave level) (omega arith) (subst (Made s) here begun)
 
     all_reaches_made : (HasBars wave s → ⊥) → Made s 0 → Made s (unstarted_node wave)
     all_reaches_made no_bars begun =
         reaches_made no_bars 0 _ (omega arith) (reaches_made no_bars 1 _ (omega arith)
         (reaches_made no_bars 2 _ (omega arith) (reaches_made no_bars 3 _ refl (
           begun.0,
-          row_begin (reaches wave s 3 split no_bars) _ _ begun.0 (omega arith)
-              (λ e want from. (inside wave e want).1) begun.1,
+          begun.1,
+          row_begin (reaches wave s 3 split no_bars) begun.1 begun.1 begun.0 (omega arith)
+              (λ e want from. (inside wave e want).1) begun.2,
         ))))
 
     pairs_made : HasBars wave s → Made s 0 → Made s (unstarted_node wave)
     pairs_made bars begun =
         let row = pairs wave s split bars in
-        row_made row (omega arith) (λ w. admissible_or_not s w pending) (length wave.workers) (omega arith)
-        (begun.0, row_begin row _ _ begun.0 (omega arith) (pairs_past wave s split bars) begun.1)
+        row_made row (λ w. admissible_or_not s w pending) (length wave.workers) (omega arith) (
+          begun.0,
+          begun.1,
+          row_begin row begun.1 begun.1 begun.0 (omega arith) (pairs_past wave s split bars) begun.2,
+        )
 
     split_made : Made s 0 → Made (s + 1) 0
     split_made begun =
         let row : Made s (unstarted_node wave) = elim (bars_or_not wave s)
         [ inl bars ↦ pairs_made bars begun | inr none ↦ all_reaches_made none begun ] in
         let new : Flow RackLayout = more (arc_of wave (Wait s)) row.0 in
-        (new, wait_step wave s row.0 new tree split pending row.1 (refl, refl, refl))
+        let next : ℕ = row.1 + 1 in
+        (new, next, wait_step wave s row.1 next row.0 new (omega arith) split pending row.2 (refl, refl, refl))
 
   splits_made : (s : ℕ) → s ≤ length wave.splits → Made 0 0 → Made s 0
   splits_made zero l begun = begun
@@ -173,7 +180,9 @@ module _ (wave : Wave) (tree : IsTree wave) where
       let next : s + 1 ≡ suc s = omega arith in
       subst (λ (u : ℕ). Made u 0) next (elim (cases_Bool (split_at wave s).pending) [
         | inl pending ↦ split_made s (omega arith) pending before
-        | inr idle ↦ (before.0, idle_row wave s before.0 (omega arith) idle before.1)
+        | inr idle ↦
+            (let limit : ℕ = before.1 in
+            (before.0, limit, idle_row wave s limit limit before.0 (omega arith) (omega arith) idle before.2))
       ])
 
   -- the rows of the parents of a level's nodes
@@ -183,16 +192,18 @@ module _ (wave : Wave) (tree : IsTree wave) where
       subst (λ (u : ℕ). Made u 0) (let e : start wave (suc level) ≡ node wave (suc level) 0 = omega arith in e)
       begun
   downs_made level (suc j) l begun =
-      let few = few_columns wave tree in
-      let at = level_in wave level in let low = at.0 in let high = at.1 in
       let before = downs_made level j (omega arith) begun in
       let row = downs wave level j (omega arith) in
       let inside = downs_inside wave level j (omega arith) in
-      let first = row_begin row _ _ before.0 (omega arith) (λ e want from. (inside e want from).0) before.1 in
-      let all = row_made row low (down_or_not level j) (count wave level) (omega arith) (before.0, first) in (
+      let limit : ℕ = before.1 in
+      let first = row_begin row limit limit before.0 (omega arith) (λ e want from. (inside e want from).0)
+      before.2 in
+      let empty : Made (node wave (suc level) j) (start wave level + 0) = (before.0, limit, first) in
+      let all = row_made row (down_or_not level j) (count wave level) (omega arith) empty in (
         all.0,
-        row_close row (node wave (suc level) (suc j)) _ _ all.0 (omega arith) (omega arith)
-            (λ e want from. (inside e want from).1) all.1,
+        all.1,
+        row_close row (node wave (suc level) (suc j)) all.1 all.1 all.0 (omega arith) (omega arith)
+            (λ e want from. (inside e want from).1) all.2,
       )
 
   level_made : (level : ℕ) → level < 3 → Made (start wave (suc level)) 0 → Made (start wave level) 0
@@ -205,9 +216,14 @@ module _ (wave : Wave) (tree : IsTree wave) where
   slots_made (suc j) l begun =
       let before = slots_made j (omega arith) begun in
       let new : Flow RackLayout = more (arc_of wave (Slot j)) before.0 in
+      let limit : ℕ = before.1 in
       let next : j + 1 ≡ suc j = omega arith in
-      subst (λ (k : ℕ). Made (node wave 0 k) 0) next
-      (new, slot_step wave j j before.0 new refl (omega arith) before.1 (refl, refl, refl))
+      subst (λ (k : ℕ). Made (node wave 0 k) 0) next (
+        new,
+        limit + 1,
+        slot_step wave j j limit (limit + 1) before.0 new (omega arith) refl (omega arith) before.2
+            (refl, refl, refl),
+      )
 
   pub exists : (arcs : List FlowArc) × IsRackNetwork wave arcs
   exists =
@@ -219,12 +235,13 @@ module _ (wave : Wave) (tree : IsTree wave) where
       } in
       let none : Flow RackLayout = record { layout = layout; arcs = []; flows = [] } in
       let sized : IsSized wave layout = record { splits = refl; centres = refl; racks = refl; workers = refl } in
-      let begun : Made 0 0 = (none, nothing_built wave none sized refl refl) in
+      let begun : Made 0 0 = (none, 0, nothing_built wave none sized refl refl) in
       let splits = splits_made (length wave.splits) (omega arith) begun in
       let levels = level_made 0 (omega arith) (level_made 1 (omega arith) (level_made 2 (omega arith) splits)) in
       let slots = slots_made (length wave.workers) (omega arith) levels in
       let all : Flow RackLayout = more (arc_of wave Rest) slots.0 in
-      (all.arcs, record { rows = (all_arcs wave slots.0 all slots.1 (refl, refl, refl)).0; tree = tree })
+      let rows = all_arcs wave slots.1 (slots.1 + 1) slots.0 all (omega arith) slots.2 (refl, refl, refl) in
+      (all.arcs, record { rows = rows.0; tree = tree })
 
 pub rack_network_exists : RackNetworkExists
 rack_network_exists = exists

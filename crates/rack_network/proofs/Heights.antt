@@ -9,6 +9,7 @@ use Rattle.network_prices.specs.Networks.{way_of}
 use Rattle.rack_network.specs.Layout.{clusters}
 use Rattle.rack_network.specs.Racks.{count, start, node, above, unstarted_node}
 use Rattle.rack_network.specs.Racks.{above_centres, rack_nodes, IsTree}
+use Rattle.rack_network.specs.Build.{IsSmallWave}
 use Rattle.rack_network.specs.Places.{several, one_cluster, clusters-le}
 use Rattle.rack_network.proofs.Distances.{distance_is}
 
@@ -78,20 +79,20 @@ module _ (wave : Wave) where
           (levels_fall (m - suc level) level (omega arith)) in
           omega arith
 
+-- a small wave has few places past the splits
+pub few_columns : (wave : Wave) → IsSmallWave wave → unstarted_node wave ≤ length wave.splits + 297
+few_columns wave small =
+    let one = clusters-le wave.tree.centres in
+    let centres = small.few_centres in
+    let racks = small.few_racks in
+    let workers = small.few_workers in
+    omega arith
+
 -- how many levels there are
 abbrev pub levels : Wave → ℕ
 levels wave = 3 + clusters wave.tree.centres
 
 module _ (wave : Wave) (tree : IsTree wave) where
-  -- there are few places past the splits
-  pub few_columns : unstarted_node wave ≤ length wave.splits + 297
-  few_columns =
-      let one = clusters-le wave.tree.centres in
-      let centres = tree.few_centres in
-      let racks = tree.few_racks in
-      let workers = tree.few_workers in
-      omega arith
-
   pub above_in : (level w : ℕ) → level < levels wave → w < length wave.workers
       → above wave level w < count wave level
   above_in zero w l known = known

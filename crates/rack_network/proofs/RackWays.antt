@@ -3,7 +3,7 @@ use Rattle.std.proofs.Common.{◌≡◌, ℕ, zero, suc, ◌+◌, ◌*◌, ◌<�
 use Rattle.std.proofs.Common.{length, refl, sym, ap, ◌∙◌, subst, inl, inr, ◌⊎◌, arith, unwrap_or, Contains}
 use Rattle.std.proofs.lemmas.Bool.{cases_Bool, cases_eq, cases_lt, eq-eqb, ne_eqb, lt-ltb, le-ltb, false≢true}
 use Rattle.std.proofs.Math.Nat.{mul-le-mul_left}
-use Rattle.node_ids.specs.Sets.{HasPair, has_number, place_of_pair}
+use Rattle.node_ids.specs.Sets.{HasPair, has_pair}
 use Rattle.flow_network.specs.declared.arcs.FlowArc.{FlowArc}
 use Rattle.flow_network.specs.Flows.{arc_at}
 use Rattle.flow_network.specs.Laws.{outroom}
@@ -72,7 +72,7 @@ bars_below : (wave : Wave) (s n : ℕ) → n ≤ length wave.workers
 bars_below wave s zero l = inr (λ w m b. absurd (omega arith))
 bars_below wave s (suc n) l = elim (bars_below wave s n (omega arith)) [
   | inl b ↦ inl b
-  | inr none ↦ elim (cases_Bool (has_number wave.barred (place_of_pair s n))) [
+  | inr none ↦ elim (cases_Bool (has_pair wave.barred s n)) [
     | inl here ↦ inl (n, omega arith, here)
     | inr free ↦ inr (λ w m b. elim (cases_eq w n) [
       | inl e ↦ false≢true (sym free ∙ subst (λ (x : ℕ). HasPair wave.barred s x) e b)

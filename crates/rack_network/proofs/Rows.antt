@@ -1,32 +1,30 @@
 -- The rows of the rack network are built arc by arc.
-use Rattle.std.proofs.Common.{◌≡◌, ℕ, suc, ◌+◌, ◌-◌, ◌*◌, ◌<◌, ◌≤◌, true, false, [], length, get_or, refl, sym}
+use Rattle.std.proofs.Common.{◌≡◌, ℕ, suc, ◌+◌, ◌-◌, ◌<◌, ◌≤◌, true, false, [], length, get_or, refl, sym}
 use Rattle.std.proofs.Common.{ap, ◌∙◌, subst, ◌⊎◌, inl, inr, arith}
 use Rattle.std.proofs.lemmas.Bool.{false≢true}
 use Rattle.flow_network.specs.Flow.{Flow}
 use Rattle.wave_problem.specs.Wave.{Wave, IsAdmissible, split_at}
 use Rattle.wave_problem.proofs.Bound.{pending_known, live_known}
 use Rattle.network_prices.specs.Building.{IsAdded}
-use Rattle.network_prices.specs.Tables.{AreRows, IsBuiltTo}
+use Rattle.network_prices.specs.Tables.{AreRows}
 use Rattle.network_prices.proofs.Tables.{built_nothing}
 use Rattle.network_prices.proofs.Rows.{IsRow, row_last, row_end, rows_all}
 use Rattle.rack_network.specs.declared.layout.RackLayout.{RackLayout}
 use Rattle.rack_network.specs.declared.arcs.RackArc.{RackArc}
 use Rattle.rack_network.specs.declared.arcs.RackArc.TheVariants.{Pair, Reach, Wait, Down, Slot, Rest}
 use Rattle.rack_network.specs.Racks.{count, start, node, parent, unstarted_node, sink_node}
-use Rattle.rack_network.specs.Racks.{HasBars, IsDown, IsReach, IsTree, arc_of, IsSized, IsWanted}
-use Rattle.rack_network.specs.Build.{rank, IsBuilt}
-use Rattle.rack_network.proofs.Heights.{few_columns, level_in, one_node}
+use Rattle.rack_network.specs.Racks.{HasBars, IsDown, IsReach, arc_of, IsSized, IsWanted}
+use Rattle.rack_network.specs.Build.{IsBuiltWithin}
+use Rattle.rack_network.proofs.Heights.{level_in, one_node}
 
 module _ (wave : Wave) where
   abbrev Row : ℕ → ℕ → ℕ → (ℕ → RackArc) → (ℕ → Type 0) → Type 0
   Row = IsRow (IsWanted wave) (arc_of wave)
 
   pub nothing_built : (network : Flow RackLayout) → IsSized wave network.layout → network.arcs ≡ []
-      → network.flows ≡ [] → IsBuilt wave 0 0 network
+      → network.flows ≡ [] → IsBuiltWithin wave 0 0 0 network
   nothing_built network fits arcs flows =
-      subst (λ (limit : ℕ). IsBuiltTo (IsWanted wave) (arc_of wave) (IsSized wave) 0 0 limit network)
-      (let e : 0 ≡ rank wave 0 0 = omega arith in e)
-      (built_nothing (IsWanted wave) (arc_of wave) (IsSized wave) network fits arcs flows)
+      built_nothing (IsWanted wave) (arc_of wave) (IsSized wave) network fits arcs flows
 
   -- each arc leads past the splits, and from a place below the sink to one that is no later
   pub inside : (d : RackArc) → IsWanted wave d → ((arc_of wave d).from < sink_node wave)
@@ -105,19 +103,19 @@ module _ (wave : Wave) where
       absurd (let up = (level_in wave (suc level)).0 in omega arith)
   own_wait s split _ want from low = absurd (omega arith)
 
-  pub wait_step : (s : ℕ) (old new : Flow RackLayout) → IsTree wave → s < length wave.splits
-      → (split_at wave s).pending ≡ true → IsBuilt wave s (unstarted_node wave) old
-      → IsAdded (arc_of wave (Wait s)) old new → IsBuilt wave (s + 1) 0 new
-  wait_step s old new tree split pending =
-      let few = few_columns wave tree in
-      row_last s (s + 1) (unstarted_node wave) _ _ (Wait s) old new refl (omega arith) pending refl
+  pub wait_step : (s limit next : ℕ) (old new : Flow RackLayout) → limit < next → s < length wave.splits
+      → (split_at wave s).pending ≡ true → IsBuiltWithin wave s (unstarted_node wave) limit old
+      → IsAdded (arc_of wave (Wait s)) old new → IsBuiltWithin wave (s + 1) 0 next new
+  wait_step s limit next old new less split pending =
+      row_last s (s + 1) (unstarted_node wave) limit next (Wait s) old new refl less pending refl
       (omega arith) (own_wait s split)
 
   -- the row of a split that is not pending
-  pub idle_row : (s : ℕ) (network : Flow RackLayout) → s < length wave.splits
-      → (split_at wave s).pending ≡ false → IsBuilt wave s 0 network → IsBuilt wave (s + 1) 0 network
-  idle_row s network split idle =
-      row_end s (s + 1) 0 _ _ network refl (omega arith) (λ e want from low. none e want from)
+  pub idle_row : (s limit next : ℕ) (network : Flow RackLayout) → limit ≤ next → s < length wave.splits
+      → (split_at wave s).pending ≡ false → IsBuiltWithin wave s 0 limit network
+      → IsBuiltWithin wave (s + 1) 0 next network
+  idle_row s limit next network less split idle =
+      row_end s (s + 1) 0 limit next network refl less (λ e want from low. none e want from)
     where
       never : (q : ℕ) → q ≡ s → (split_at wave q).pending ≡ true → ⊥
       never q e p = false≢true (sym idle ∙ ap (λ (z : ℕ). (split_at wave z).pending) (sym e) ∙ p)
@@ -186,12 +184,12 @@ module _ (wave : Wave) where
   own_slot j known (Slot v) want from = ap Slot (let is : v ≡ j = omega arith in is)
   own_slot j known Rest want from = absurd (omega arith)
 
-  pub slot_step : (j w : ℕ) (old new : Flow RackLayout) → w ≡ j → w < length wave.workers
-      → IsBuilt wave (node wave 0 j) 0 old → IsAdded (arc_of wave (Slot w)) old new
-      → IsBuilt wave (node wave 0 (j + 1)) 0 new
-  slot_step j w old new same known =
-      row_last (node wave 0 j) (node wave 0 (j + 1)) 0 _ _ (Slot w) old new (omega arith)
-      (omega arith) known (omega arith) (omega arith)
+  pub slot_step : (j w limit next : ℕ) (old new : Flow RackLayout) → limit < next → w ≡ j
+      → w < length wave.workers → IsBuiltWithin wave (node wave 0 j) 0 limit old
+      → IsAdded (arc_of wave (Slot w)) old new → IsBuiltWithin wave (node wave 0 (j + 1)) 0 next new
+  slot_step j w limit next old new less same known =
+      row_last (node wave 0 j) (node wave 0 (j + 1)) 0 limit next (Slot w) old new (omega arith)
+      less known (omega arith) (omega arith)
       (λ e want from low. ap (arc_of wave) (own_slot j (omega arith) e want from ∙ ap Slot (sym same)))
 
   -- the last row
@@ -205,9 +203,8 @@ module _ (wave : Wave) where
   before_rest (Slot w) want = inl (omega arith)
   before_rest Rest want = inr refl
 
-  pub all_arcs : (old new : Flow RackLayout) → IsBuilt wave (unstarted_node wave) 0 old
-      → IsAdded (arc_of wave Rest) old new
+  pub all_arcs : (limit next : ℕ) (old new : Flow RackLayout) → limit < next
+      → IsBuiltWithin wave (unstarted_node wave) 0 limit old → IsAdded (arc_of wave Rest) old new
       → AreRows (IsWanted wave) (arc_of wave) new.arcs × ((k : ℕ) → get_or new.flows k 0 ≡ 0)
-  all_arcs old new =
-      rows_all (unstarted_node wave) _ (299 * unstarted_node wave + 1) Rest old new (omega arith) tt refl
-      before_rest
+  all_arcs limit next old new less =
+      rows_all (unstarted_node wave) limit next Rest old new less tt refl before_rest

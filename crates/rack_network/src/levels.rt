@@ -1,7 +1,7 @@
 //! The nodes of the tree by level and number: workers at level 0, racks at 1, data centres at 2, the cluster
 //! at 3.
 ghost use Rattle.std.specs.Prelude.{◌≡◌, ◌+◌, ◌*◌, ◌<◌, ◌≤◌, ◌^◌, length};
-ghost use Rattle.rack_tree.specs.declared.TheConstants.{MAX_WORKERS};
+ghost use Rattle.rack_tree.specs.declared.TheConstants.{MAX_RACKS, MAX_WORKERS};
 ghost use Rattle.wave_problem.specs.declared.TheConstants.{MAX_SLOTS};
 ghost use Rattle.rack_network.specs.Racks.{above, count, parent, slots, start};
 
@@ -13,7 +13,7 @@ use wave_problem::Problem;
 pub fn count(problem: &Problem, level: u8) -> usize
     requires { level < 4 }
     ensures count { result ≡ count problem.now level }
-    ensures most { result ≤ 256 }
+    ensures most { result ≤ MAX_WORKERS }
 {
     let tree = problem.tree();
     match level {
@@ -29,7 +29,7 @@ pub fn start(problem: &Problem, level: u8) -> usize
     requires { level < 4 }
     ensures place { result ≡ start problem.now level }
     ensures most { result < 2 ^ 18 }
-    ensures whole { result + count problem.now level ≤ length problem.now.splits + 297 }
+    ensures whole { result + count problem.now level ≤ length problem.now.splits + 37121 }
 {
     let tree = problem.tree();
     let centres = problem.splits() + clusters(tree.centres());
@@ -48,7 +48,7 @@ pub fn parent(problem: &Problem, level: u8, number: u16) -> usize
     requires level { level < 3 }
     requires number { number < count problem.now level }
     ensures parent { result ≡ parent problem.now level number }
-    ensures most { result < 256 }
+    ensures most { result < MAX_RACKS }
 {
     let tree = problem.tree();
     match level {

@@ -3,8 +3,8 @@ ghost use Rattle.std.specs.Prelude.{◌≡◌, ℕ, suc, ◌+◌, ◌<◌, ◌�
 ghost use Rattle.std.specs.Prelude.{IfOk, IsTrue, OnOk, slice_index};
 ghost use Rattle.wave_problem.specs.Wave.{split_at, IsUsable};
 ghost use Rattle.network_prices.specs.Building.{IsAdded};
-ghost use Rattle.rack_network.specs.declared.network.TheConstants.{MAX_ARCS, MAX_SLOTS, MAX_SPLITS};
-ghost use Rattle.rack_network.specs.Racks.{arc_of, count, node, parent, slots, start, unstarted_node};
+ghost use Rattle.rack_network.specs.declared.network.TheConstants.{MAX_ARCS};
+ghost use Rattle.rack_network.specs.Racks.{arc_of, count, node, parent, start, unstarted_node};
 ghost use Rattle.rack_network.specs.Racks.{HasBars, IsDown, IsHeldUnder, IsRackNetwork, IsSized};
 ghost use Rattle.rack_network.specs.Racks.{IsTree, IsUnder, IsWanted};
 ghost use Rattle.rack_network.specs.Build.{IsBuilt, IsSmallWave};
@@ -19,6 +19,15 @@ use wave_problem::Problem;
 /// How many splits a problem may have for its rack network to be built.
 pub const MAX_SPLITS: usize = 1024;
 
+/// How many data centres it may have.
+pub const MAX_CENTRES: usize = 8;
+
+/// How many racks it may have, in all its centres together.
+pub const MAX_RACKS: usize = 32;
+
+/// How many workers it may have, in all its racks together.
+pub const MAX_WORKERS: usize = 256;
+
 /// How many free slots its live workers may have together: one arc can lead to all of them.
 pub const MAX_SLOTS: u64 = 4096;
 
@@ -28,8 +37,8 @@ pub const MAX_ARCS: usize = 395_577;
 /// The rack network of a problem, without flow, row by row: of each split the arcs to `Cluster`, to data
 /// centres, to racks, to workers and to `Unstarted`, then those of `Cluster`, of the centres, of the racks
 /// and of the workers, then the last. Where live holders of a split stand below one node, one arc leads from
-/// the split to it. Of a problem of more than `MAX_SPLITS` splits, or with more than `MAX_SLOTS` free slots
-/// of live workers, none is made, as where memory is wanting.
+/// the split to it. Of a problem past `MAX_SPLITS`, `MAX_CENTRES`, `MAX_RACKS` or `MAX_WORKERS`, or with more
+/// than `MAX_SLOTS` free slots of live workers, none is made, as where memory is wanting.
 pub fn build(alloc: Global, problem: &Problem) -> Result<Network<RackLayout>, AllocError>
     ensures layout { IfOk result (λ network. IsSized problem.now network.layout) }
     ensures arcs { IfOk result (λ network. IsRackNetwork problem.now network.arcs) }
@@ -37,10 +46,9 @@ pub fn build(alloc: Global, problem: &Problem) -> Result<Network<RackLayout>, Al
     ensures most { IfOk result (λ network. length network.arcs ≤ MAX_ARCS) }
     ensures small { IfOk result (λ _. IsSmallWave problem.now) }
 {
-    if problem.splits() > MAX_SPLITS || slots(problem, 3, 0) > MAX_SLOTS {
+    if !is_small(problem) {
         return Err(AllocError);
     }
-    know_size(problem);
     let layout = RackLayout {
         splits: problem.splits() as u16,
         centres: problem.tree().centres() as u8,
@@ -65,13 +73,20 @@ fn know_tree(problem: &Problem)
     problem.limits();
 }
 
-// That the reward too is small enough for an arc.
-fn know_size(problem: &Problem)
-    requires splits { length problem.now.splits ≤ MAX_SPLITS }
-    requires slots { slots problem.now (length problem.now.workers) 3 0 ≤ MAX_SLOTS }
-    ensures { IsSmallWave problem.now }
+// Whether the network is built for the problem. (Where there are few splits, the reward too is small enough
+// for an arc.)
+fn is_small(problem: &Problem) -> bool
+    ensures { IsTrue result ↔ IsSmallWave problem.now }
 {
     problem.limits();
+    let tree = problem.tree();
+    if problem.splits() > MAX_SPLITS || problem.workers() > MAX_WORKERS {
+        return false;
+    }
+    if tree.racks() > MAX_RACKS || tree.centres() > MAX_CENTRES {
+        return false;
+    }
+    slots(problem, 3, 0) <= MAX_SLOTS
 }
 
 // Adds the rows of the splits.

@@ -1,4 +1,4 @@
-use Rattle.std.specs.Prelude.{◌≡◌, ◌<◌, ◌≤◌, length, All}
+use Rattle.std.specs.Prelude.{◌<◌, ◌≤◌, length, All}
 use Rattle.rack_tree.specs.Tree.{Tree, AreCentresKnown}
 use Rattle.rack_tree.specs.declared.RackTree.TheInside.{Inside}
 use Rattle.rack_tree.specs.declared.TheConstants.{MAX_CENTRES, MAX_RACKS, MAX_WORKERS}
@@ -14,8 +14,3 @@ pub record IsWithinLimits (tree : Tree) : Type 0 where
   pub workers : length tree.rack_of ≤ MAX_WORKERS
   pub centres_known : AreCentresKnown tree
   pub known : All (λ rack. rack < length tree.centre_of) tree.rack_of
-
--- and that the centres of all racks have their place
-pub record IsKept (t : Inside) : Type 0 where
-  pub within : IsWithinLimits (tree_of t)
-  pub room : t.centre_of.capacity ≡ MAX_RACKS

@@ -1,5 +1,4 @@
 ghost use Rattle.std.specs.Prelude.{◌≡◌, ◌≤◌, ◌++◌, OnOk, [], if◌then◌else◌, length, string_bytes};
-ghost use Rattle.rack_tree.specs.declared.TheConstants.{MAX_WORKERS};
 ghost use Rattle.report_lines.specs.Lines.{accepted_line, answer_line, backup_line, copy_line, copy_lines};
 ghost use Rattle.report_lines.specs.Lines.{dead_line, dead_lines, ignored_line, number_of_reason};
 ghost use Rattle.report_lines.specs.Lines.{reduce_line, started_line};
@@ -136,7 +135,7 @@ pub fn add_dead(
     workers: &NameTable<'_>,
     dead: &WorkerSet,
 ) -> Result<(), AllocError>
-    requires { length workers.now ≤ MAX_WORKERS }
+    requires { length workers.now ≤ 256 }
     ensures { OnOk result (string_bytes lines.new ≡ string_bytes lines.old
         ++ dead_lines workers.now dead.now) }
 {

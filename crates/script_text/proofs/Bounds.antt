@@ -20,7 +20,7 @@ use Rattle.line_rules.specs.declared.edition.Version.{Version}
 use Rattle.line_rules.specs.declared.purpose.Purpose.{Purpose}
 use Rattle.line_rules.proofs.FitLines.{known_after, names_after}
 use Rattle.plan_text.specs.Tidy.{IsTidyRow}
-use Rattle.plan_text.proofs.Tidy.{tidy-more, tidy-read, tidy_of}
+use Rattle.plan_text.proofs.Tidy.{tidy-more, tidy_of}
 
 -- a sweep has no more counts than this
 abbrev pub IsShort : ℕ → Statement → Type 0
@@ -41,7 +41,7 @@ most_of_command : (version : Version) (purpose : Purpose) (k : Keyword) → ente
 most_of_command version purpose keyword.Problem is = cc
 most_of_command version purpose k is = cc
 
-abbrev workers_in : Known → ℕ
+abbrev pub workers_in : Known → ℕ
 workers_in k = length (rows_of keyword.Worker k.rows)
 
 workers_grow : (k : Known) (ss : List Statement) → workers_in k ≤ workers_in (names_after k ss)
@@ -104,9 +104,9 @@ bounded_after n k (l ∷ ls) (s ∷ ss) fits few bounded =
     (bounded_more n k s fits.0.says.many fits.0.fit (omega (arith, few, workers_grow k (s ∷ ss))) bounded)
 bounded_after n k ls ss fits few bounded = absurd fits
 
-pub bounded-read : (purpose : Purpose) (text : List ℕ) (k : Known) → IsAllRead purpose text k
-    → AreBounded 256 k.rows k.commands
-bounded-read purpose text k read =
+-- the commands of a text with at most so many workers
+pub bounded-read : (n : ℕ) (purpose : Purpose) (text : List ℕ) (k : Known) → workers_in k ≤ n
+    → IsAllRead purpose text k → AreBounded n k.rows k.commands
+bounded-read n purpose text k few read =
     let same = known_after purpose read.statements ∙ sym read.known in
-    let few : workers_in k ≤ 256 = (tidy-read purpose text k read).few_workers in
     grind (arith, bounded_after, All-nil)

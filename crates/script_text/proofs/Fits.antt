@@ -28,7 +28,7 @@ use Rattle.plan_text.proofs.Named.{names_differ}
 use Rattle.plan_text.proofs.Parts.{all_held, all_small}
 use Rattle.plan_text.proofs.Words.{tidy_workers}
 use Rattle.script_text.specs.Documents.{document_of, documents_of, is_in, text_of_split}
-use Rattle.script_text.specs.Heads.{IsFitHead, MakesHead, slots_told}
+use Rattle.script_text.specs.Heads.{FitMaster, IsFitHead, MakesHead, slots_told}
 use Rattle.script_text.specs.declared.heads.Head.{Head}
 use Rattle.script_text.proofs.Counting.{counted_once}
 use Rattle.script_text.proofs.Lines.{parts_within, silence_within, told_within}
@@ -120,14 +120,15 @@ module _ (rows : List Statement) (tidy : AreTidy rows) (head : Head) (makes : Ma
       subst (λ n. (1 ≤ n) × (n ≤ 1000)) (sym makes.silence)
       (told_within 1 1000 3 (rows_of Silence rows) (silence_within rows tidy) (omega arith) (omega arith))
 
-  pub fit_head : length (rows_of Split rows) ≤ 1024 → IsFitHead head
+  pub fit_head : FitMaster rows → IsFitHead head
   fit_head few = record {
     workers = workers_size ∙ sym slots_size;
     texts = in_order;
+    few_workers = omega (arith, slots_size, few.few_workers);
     few_slots = subst (All (λ n. n ≤ 255)) (sym makes.slots)
         (All-map (λ n. n ≤ 255) slots_told (rows_of Worker rows)
         (λ i d lt. (tidy_workers rows tidy i d lt).slots.most));
-    few_splits = omega (arith, splits_size, few);
+    few_splits = omega (arith, splits_size, few.few_splits);
     small_splits = small;
     held_well = held;
     few_documents = few_documents;

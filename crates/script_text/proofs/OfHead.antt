@@ -9,20 +9,21 @@ use Rattle.line_shapes.specs.Lines.{Statement}
 use Rattle.line_shapes.specs.declared.keyword.Keyword.TheVariants.{Busy, End, Split, Target, Worker}
 use Rattle.line_rules.specs.Entering.{most_workers}
 use Rattle.line_rules.specs.Known.{rows_of}
+use Rattle.line_rules.specs.declared.edition.Version.TheVariants.{Three}
 use Rattle.line_rules.specs.declared.purpose.Purpose.{Purpose}
 use Rattle.plan_text.specs.Names.{names_of, nth_word}
 use Rattle.plan_text.specs.Value.{declared_split}
 use Rattle.plan_text.proofs.Tidy.{tidy-read}
 use Rattle.script_text.specs.Heads.{slots_told}
 use Rattle.script_text.proofs.Lines.{target_within, told_within}
-use Rattle.script_text.proofs.Read.{few-read}
+use Rattle.script_text.proofs.Read.{IsOfJob, few-read, fit_master-read}
 use Rattle.script_text.specs.Commands.{IsKnownIn, IsNumbered, SaysCommand}
 use Rattle.script_text.specs.Scripts.{IsOfHead, IsScriptOf, IsTarget}
 use Rattle.script_text.specs.declared.script.Command.{Command}
 use Rattle.script_text.specs.declared.script.Command.TheVariants as command
 use Rattle.script_text.specs.declared.script.Names.{Names}
 use Rattle.script_text.specs.declared.script.ScriptText.{ScriptText}
-use Rattle.script_text.proofs.Bounds.{IsShort, bounded-read}
+use Rattle.script_text.proofs.Bounds.{IsShort, bounded-read, workers_in}
 
 below : (names : List Word) (name : Word) (n : ℕ) → IsNumbered names name n → n < length names
 below names name n is = (position-Some (λ m. bytes_eq name m) names n name is).0
@@ -41,7 +42,8 @@ is_known names s (command.Lose split worker) short says =
 is_known names s (command.Sweep counts) short says = omega (arith, says.1.many, short says.0)
 is_known names s c short says = tt
 
-module _ (purpose : Purpose) (text : List ℕ) (value : ScriptText) (is : IsScriptOf purpose text value) where
+module _ (purpose : Purpose) (text : List ℕ) (value : ScriptText) (job : IsOfJob purpose)
+    (is : IsScriptOf purpose text value) where
   abbrev rows : List Statement
   rows = is.known.rows
 
@@ -61,7 +63,8 @@ module _ (purpose : Purpose) (text : List ℕ) (value : ScriptText) (is : IsScri
   known : All (IsKnownIn (length value.script.names.workers) (length value.script.names.splits))
       value.script.commands.items
   known i d lt =
-      let bounded = bounded-read purpose text is.known is.read in
+      let few = (fit_master-read purpose text is.known job is.read).few_workers in
+      let bounded = bounded-read 256 purpose text is.known few is.read in
       let nowhere : Statement = record { keyword = End; words = [] } in
       let says = is.declares.commands in
       is_known value.script.names (get_or is.known.commands i nowhere)
@@ -76,7 +79,9 @@ module _ (purpose : Purpose) (text : List ℕ) (value : ScriptText) (is : IsScri
         let commands = value.script.commands.items in
         subst (λ n. All (IsKnownIn n (length value.head.splits.items)) commands) workers_size
         (subst (λ n. All (IsKnownIn (length value.script.names.workers) n) commands) splits_size known);
-    few = omega (arith, is.declares.commands.many, (bounded-read purpose text is.known is.read).few);
+    few =
+        let all = bounded-read (workers_in is.known) purpose text is.known (omega arith) is.read in
+        omega (arith, is.declares.commands.many, all.few);
   }
 
   pub is_target : IsTarget value.script.target
@@ -88,8 +93,8 @@ module _ (purpose : Purpose) (text : List ℕ) (value : ScriptText) (is : IsScri
         few = omega (arith, is.declares.target, told.1);
       }
 
-  pub few_workers : length value.head.slots.items ≤ most_workers purpose
+  pub few_workers : length value.head.slots.items ≤ most_workers Three purpose
   few_workers =
-      let few : length (rows_of Worker rows) ≤ most_workers purpose =
+      let few : length (rows_of Worker rows) ≤ most_workers Three purpose =
       few-read purpose text is.known is.read Worker in
       omega (arith, slots_size, few)

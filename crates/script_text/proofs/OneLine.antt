@@ -1,12 +1,12 @@
 -- A line without a fault where commands stand is `end`, or a command with all its words.
-use Rattle.std.proofs.Common.{◌≡◌, ◌≢◌, Some, arith, length, refl, subst}
+use Rattle.std.proofs.Common.{◌≡◌, ◌≢◌, ◌≤◌, Some, arith, length, refl, subst}
 use Rattle.text_lines.specs.Texts.{Line}
 use Rattle.line_shapes.specs.Lines.{Statement}
 use Rattle.line_shapes.specs.declared.keyword.Keyword.{Keyword}
 use Rattle.line_shapes.specs.declared.keyword.Keyword.TheVariants as keyword
 use Rattle.line_rules.specs.Entering.{entering_of}
 use Rattle.line_rules.specs.Faults.{IsComplete}
-use Rattle.line_rules.specs.Known.{Known}
+use Rattle.line_rules.specs.Known.{Known, rows_of}
 use Rattle.line_rules.specs.Reading.{IsFitLine}
 use Rattle.line_rules.specs.Sections.{in_script, section_of}
 use Rattle.line_rules.specs.declared.entering.Entering.TheVariants.{InTurn}
@@ -14,7 +14,6 @@ use Rattle.line_rules.specs.declared.purpose.Purpose.{Purpose}
 use Rattle.line_rules.specs.declared.purpose.Purpose.TheVariants.{Playing}
 use Rattle.line_rules.specs.declared.section.Section.{Section}
 use Rattle.line_rules.specs.declared.section.Section.TheVariants.{Body}
-use Rattle.plan_text.specs.Tidy.{AreTidy}
 use Rattle.plan_text.proofs.Tidy.{tidy_of}
 use Rattle.script_text.specs.Commands.{IsKnownIn, SaysCommand}
 use Rattle.script_text.specs.Ready.{IsWholeCommand, told_names}
@@ -51,12 +50,12 @@ module _ (k : Known) (line : Line) (s : Statement) (fit : IsFitLine k line s) (p
   ready_line other =
       has_words k.rows s.keyword s.words (in_turn s.keyword stands other) (tidy_of k s fit.says.many fit.fit)
 
-  short : AreTidy k.rows → IsShort 256 s
-  short tidy same =
+  short : length (rows_of keyword.Worker k.rows) ≤ 256 → IsShort 256 s
+  short few same =
       let whole = subst (λ (j : Keyword). IsComplete k (record { keyword = j; words = s.words })) same fit.fit.whole in
-      omega (arith, whole, tidy.few_workers)
+      omega (arith, whole, few)
 
   -- the command that it says knows no others
-  pub known_line : AreTidy k.rows → (names : Names) (c : Command) → SaysCommand names s c
-      → IsKnownIn (length names.workers) (length names.splits) c
-  known_line tidy names c says = is_known names s c (short tidy) says
+  pub known_line : length (rows_of keyword.Worker k.rows) ≤ 256 → (names : Names) (c : Command)
+      → SaysCommand names s c → IsKnownIn (length names.workers) (length names.splits) c
+  known_line few names c says = is_known names s c (short few) says

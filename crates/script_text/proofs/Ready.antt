@@ -20,7 +20,7 @@ use Rattle.plan_text.proofs.Words.{line}
 use Rattle.script_text.specs.Commands.{word_at}
 use Rattle.script_text.specs.Ready.{HasName, HasNumber, HasWords, HaveNames, HavePair, IsWholeCommand}
 use Rattle.script_text.specs.Ready.{told_names}
-use Rattle.script_text.proofs.Bounds.{bounded-read}
+use Rattle.script_text.proofs.Bounds.{bounded-read, workers_in}
 
 -- ---- the words of each shape
 
@@ -77,7 +77,7 @@ has_words rows k ws is row = absurd cc
 pub ready-read : (purpose : Purpose) (text : List ℕ) (k : Known) → IsAllRead purpose text k
     → All (IsWholeCommand (told_names k.rows)) k.commands
 ready-read purpose text k read i d lt =
-    let command = (bounded-read purpose text k read).tidy i d lt in
+    let command = (bounded-read (workers_in k) purpose text k (omega arith) read).tidy i d lt in
     let s : Statement = get_or k.commands i d in
     has_words k.rows s.keyword s.words command.in_turn command.tidy
 

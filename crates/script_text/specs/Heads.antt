@@ -29,11 +29,17 @@ pub record MakesHead (rows : List Statement) (head : Head) : Type 0 where
   pub parts : head.parts ≡ setting Parts 1 rows
   pub silence : head.silence ≡ setting Silence 3 rows
 
+-- no more workers and splits than a master has
+pub record FitMaster (rows : List Statement) : Type 0 where
+  pub few_workers : length (rows_of Worker rows) ≤ 256
+  pub few_splits : length (rows_of Split rows) ≤ 1024
+
 -- all that is asked of the parts of a cluster
 pub record IsFitHead (head : Head) : Type 0 where
   pub workers : length head.tree.rack_of ≡ length head.slots.items
   pub texts : map (λ text. text.split) (values_of head.texts.items)
       ≡ range_with_len 0 (length head.splits.items)
+  pub few_workers : length head.slots.items ≤ 256
   pub few_slots : All (λ n. n ≤ MAX_SLOTS) head.slots.items
   pub few_splits : length head.splits.items ≤ 1024
   pub small_splits : All IsSmall head.splits.items

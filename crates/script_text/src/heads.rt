@@ -1,7 +1,7 @@
-ghost use Rattle.std.specs.Prelude.{◌≡◌, ◌≤◌, IfOk, length, map};
-ghost use Rattle.line_shapes.specs.declared.keyword.Keyword.TheVariants.{Split, Worker};
+ghost use Rattle.std.specs.Prelude.{◌≡◌, IfOk, map};
+ghost use Rattle.line_shapes.specs.declared.keyword.Keyword.TheVariants.{Worker};
 ghost use Rattle.line_rules.specs.Known.{rows_of};
-ghost use Rattle.script_text.specs.Heads.{IsFitHead, MakesHead, slots_told};
+ghost use Rattle.script_text.specs.Heads.{FitMaster, IsFitHead, MakesHead, slots_told};
 
 use crate::documents::build_texts;
 use crate::naming::setting_of;
@@ -32,7 +32,7 @@ pub struct Head {
 
 /// The head that the rows declare. The only error is want of memory.
 pub fn build_head(alloc: Global, rows: &TidyRows<'_, '_>) -> Result<Head, AllocError>
-    requires { length (rows_of Split rows.now) ≤ 1024 }
+    requires { FitMaster rows.now }
     ensures value { IfOk result (MakesHead rows.now) }
     ensures fit { IfOk result IsFitHead }
 {

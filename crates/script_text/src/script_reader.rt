@@ -1,11 +1,11 @@
 ghost use Rattle.std.specs.Prelude.{◌≡◌, ◌≤◌, ◌⊎◌, All, IfErr, IfOk, length};
-ghost use Rattle.line_shapes.specs.declared.keyword.Keyword.TheVariants.{Split, Target};
-ghost use Rattle.line_rules.specs.Known.{rows_of};
+ghost use Rattle.line_shapes.specs.declared.keyword.Keyword.TheVariants.{Target};
 ghost use Rattle.line_rules.specs.Entering.{most_workers};
 ghost use Rattle.line_rules.specs.Reading.{IsReadingError};
+ghost use Rattle.line_rules.specs.declared.edition.Version.TheVariants.{Three};
 ghost use Rattle.line_rules.specs.declared.purpose.Purpose.TheVariants.{Playing, Running};
 ghost use Rattle.plan_text.specs.Tidy.{AreTidy};
-ghost use Rattle.script_text.specs.Heads.{IsFitHead, MakesHead};
+ghost use Rattle.script_text.specs.Heads.{FitMaster, IsFitHead, MakesHead};
 ghost use Rattle.script_text.specs.Commands.{SayCommands};
 ghost use Rattle.script_text.specs.Naming.{AreNames};
 ghost use Rattle.script_text.specs.Ready.{IsWholeCommand, told_names};
@@ -70,7 +70,7 @@ fn read_for(alloc: Global, purpose: Purpose, text: &[u8]) -> Result<ScriptText<'
     ensures fit { IfOk result (λ value. IsFitHead value.head) }
     ensures known { IfOk result (λ value. IsOfHead value.head value.script) }
     ensures target { IfOk result (λ value. IsTarget value.script.target) }
-    ensures few { IfOk result (λ value. length value.head.slots.items ≤ most_workers purpose) }
+    ensures few { IfOk result (λ value. length value.head.slots.items ≤ most_workers Three purpose) }
     ensures err { IfErr result (IsReadingError purpose text.entry.now) }
 {
     let known = read_lines(alloc, purpose, text)?;
@@ -80,7 +80,7 @@ fn read_for(alloc: Global, purpose: Purpose, text: &[u8]) -> Result<ScriptText<'
 // What the lines that were read declare.
 fn script_of<'t>(alloc: Global, known: &KnownLines<'t>) -> Result<ScriptText<'t>, AllocError>
     requires tidy { AreTidy known.now.rows }
-    requires few { length (rows_of Split known.now.rows) ≤ 1024 }
+    requires few { FitMaster known.now.rows }
     requires ready { All (IsWholeCommand (told_names known.now.rows)) known.now.commands }
     ensures script { IfOk result (λ value. Declares known.now value.script) }
     ensures head { IfOk result (λ value. MakesHead known.now.rows value.head) }
@@ -98,7 +98,8 @@ fn build_script<'t>(
     rows: &TidyRows<'_, 't>,
     lines: &LineList<'_>,
 ) -> Result<Script<'t>, AllocError>
-    requires { All (IsWholeCommand (told_names rows.now)) lines.now }
+    requires few { FitMaster rows.now }
+    requires ready { All (IsWholeCommand (told_names rows.now)) lines.now }
     ensures names { IfOk result (λ script. AreNames rows.now script.names) }
     ensures target { IfOk result (λ script. script.target ≡ setting Target 3 rows.now) }
     ensures commands { IfOk result (λ script. SayCommands script.names lines.now script.commands.items) }

@@ -1,6 +1,6 @@
 -- A check answers each text in one way, with at most one end and one line; planning ends in one way.
 -- (Proved here, since an impl cites its own crate's specs alone.)
-use Rattle.std.proofs.Common.{ℕ, List, Bool, Ok, Err, ◌≡◌, ◌∙◌, arith, length, refl, sym, ap, subst}
+use Rattle.std.proofs.Common.{ℕ, List, Bool, Ok, Err, ◌≡◌, ◌∙◌, refl, sym, ap, subst}
 use Rattle.wave_problem.specs.Wave.{Wave}
 use Rattle.line_shapes.specs.Lines.{Statement}
 use Rattle.price_certificate.specs.Certificate.{Claim}
@@ -17,13 +17,14 @@ use Rattle.command_runner.specs.CommandRun.{HasOneAnswer, AnyLines}
 use Rattle.line_rules.proofs.OneFault.{one_fault}
 use Rattle.plan_text.proofs.OneWave.{same_bars, same_parts}
 use Rattle.tools.specs.CheckAnswer.{AnswersRead, CheckAnswer, Judges, declared_claim}
+use Rattle.wave_planner.specs.Planned.{IsPast}
 use Rattle.tools.specs.PlanAnswer.{IsPastNetwork, PlanAnswer, PlansRead}
 use Rattle.tools.specs.declared.program_end.CheckEnd.{CheckEnd}
 use Rattle.tools.specs.declared.program_end.CheckEnd.TheVariants.{Certified, Refused}
 use Rattle.tools.specs.declared.program_end.PlanEnd.TheVariants.{PastNetwork, Planned}
 
 -- claims that differ only in how the set of barred pairs is kept are judged alike
-one_judgement : (c : Claim) (ss ws : List Word) (p q : List ℕ) → HaveSamePairs p q
+one_judgement : (c : Claim) (ss ws : List Word) (p q : List (List ℕ)) → HaveSamePairs p q
     → (a b : CheckEnd) (x y : List ℕ) → Judges a (barring c p) ss ws x
     → Judges b (barring c q) ss ws y → (a ≡ b) × (x ≡ y)
 one_judgement c ss ws p q same Certified Certified x y g h = (refl, g.said ∙ sym h.said)
@@ -62,21 +63,15 @@ one_check_answer text (Err f) (Ok b) x y g h =
 one_check_answer text (Err f) (Err g) x y p q =
     let one = one_fault Checking text f g x y p q in (ap Err one.0, one.1)
 
--- the waves that the statements declare have as many splits
-same_size : (ss : List Statement) (v w : Wave) → DeclaresWave ss v → DeclaresWave ss w
-    → length w.splits ≡ length v.splits
-same_size ss v w a b = ap (λ (wave : Wave). length wave.splits) (same_parts (rows_in ss) v w a b)
-
--- a problem has more splits than the network is built for, or not
+-- a problem is past the limits of the network, or not
 not_both : (text : List ℕ) (network : NetworkKind) (with_prices : Bool) (x y : List ℕ)
     → PlansRead text network with_prices x → IsPastNetwork text network y → ⊥
 not_both text network with_prices x y g h =
     let same : h.statements ≡ g.statements =
     reads-unique Planning text h.statements g.statements h.reads g.reads in
     let made : DeclaresWave g.statements h.wave = subst (λ q. DeclaresWave q h.wave) same h.declared in
-    let size = same_size g.statements g.wave h.wave g.declared made in
-    let many = h.past.1 in
-    g.fits (h.past.0, omega (arith, many, size))
+    let parts = same_parts (rows_in g.statements) g.wave h.wave g.declared made in
+    g.fits (subst (λ (w : Wave). IsPast network w) parts h.past)
 
 -- at most one end of planning answers a text
 pub one_plan_answer : (network : NetworkKind) (with_prices : Bool) →

@@ -67,7 +67,7 @@ pub record PlansRead (text : List ℕ) (network : NetworkKind) (with_prices : Bo
   pub says : SaysPlanned with_prices (claim wave starts prices) (splits statements) (workers statements) lines
   pub checks : ChecksAgain text (claim wave starts prices) (splits statements) (workers statements)
 
--- the text declares a problem of more splits than this network is built for, and nothing is written
+-- the text declares a problem past the limits of this network, and nothing is written
 pub record IsPastNetwork (text : List ℕ) (network : NetworkKind) (lines : List ℕ) : Type 0 where
   pub statements : List Statement
   pub wave : Wave

@@ -80,10 +80,10 @@ pub struct OneThread;
 impl Certifier for OneThread {
     fn verdict(
         &self,
-        _alloc: Global,
+        alloc: Global,
         read: &PlanText<'_>,
     ) -> Result<Result<Certified, Condition>, AllocError> {
-        Ok(certify(&read.problem, &read.plan, &read.prices))
+        Ok(certify(alloc, &read.problem, &read.plan, &read.prices))
     }
 }
 

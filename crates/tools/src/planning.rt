@@ -22,8 +22,8 @@ use wave_planner::{PlanError, Planned, plan_with};
 /// Reads a problem, and writes a best plan of its map starts, made over the network of the options, with
 /// prices if they ask for them, or the text's least fault. All lines are made before their first byte is
 /// written. The starts and prices, put with a line `plan` in front of the problem's line `end`, are a text
-/// that `check` certifies, where it is no longer than a text may be. Where the problem has more splits than a
-/// direct network is built for, and one is asked for, nothing is written.
+/// that `check` certifies, where it is no longer than a text may be. Where the problem has more splits or
+/// workers than a direct network is built for, and one is asked for, nothing is written.
 pub fn plan<R: Read, W: Write>(
     alloc: Global,
     reader: &mut R,

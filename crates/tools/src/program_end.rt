@@ -20,7 +20,7 @@ pub enum CheckEnd {
 pub enum PlanEnd {
     /// A best plan, which its prices certify.
     Planned,
-    /// The problem has more splits than the network is built for, and nothing was written.
+    /// The problem has more splits or workers than the network is built for, and nothing was written.
     PastNetwork,
 }
 
@@ -35,7 +35,7 @@ pub enum Ending {
     Stuck,
     /// The words of the command line ask for nothing.
     Misused,
-    /// The words of the command line ask for a network that is not built for so many splits.
+    /// The words of the command line ask for a network that is not built for so many splits or workers.
     PastNetwork,
     /// The command has no answer of its own.
     Failed(ToolError),
@@ -132,7 +132,9 @@ impl Ending {
             }),
             Ending::NoThread => Some(plain("mrjob: no thread")),
             Ending::GateLimit => Some(plain("mrjob: gate limit")),
-            Ending::PastNetwork => Some(plain("mrjob: too many splits for a direct network")),
+            Ending::PastNetwork => Some(plain(
+                "mrjob: too many splits or workers for a direct network",
+            )),
             Ending::Failed(ToolError::Text(_)) => None,
             Ending::Well | Ending::Refused | Ending::Stuck | Ending::Misused | Ending::Left => None,
         }

@@ -4,7 +4,7 @@ use Rattle.std.proofs.Common.{subst, inl, inr, ◌⊎◌, arith, unwrap_or}
 use Rattle.std.specs.Prelude.{slice_index}
 use Rattle.std.proofs.lemmas.Bool.{cases_Bool, cases_eq, cases_lt, eq-eqb, false≢true}
 use borrow.Author.Tests.{eqb-true}
-use Rattle.node_ids.specs.Sets.{HasPair, has_number, place_of_pair}
+use Rattle.node_ids.specs.Sets.{has_pair, HasPair}
 use Rattle.rack_tree.specs.Tree.{Tree, centre_at, reach, IsWithinReach}
 use Rattle.wave_problem.specs.Wave.{Wave, IsAdmissible, IsUsable, cost}
 use Rattle.wave_problem.proofs.Bound.{live_known}
@@ -72,7 +72,7 @@ bar_below wave s v zero l = inr (λ w m u b. absurd (omega arith))
 bar_below wave s v (suc n) l = elim (bar_below wave s v n (omega arith)) [
   | inl b ↦ inl b
   | inr none ↦ elim (cases_Bool (is_under wave.tree (Worker n) v)) [
-    | inl under ↦ elim (cases_Bool (has_number wave.barred (place_of_pair s n))) [
+    | inl under ↦ elim (cases_Bool (has_pair wave.barred s n)) [
       | inl here ↦ inl (n, omega arith, under, here)
       | inr free ↦ inr (λ w m u b. elim (cases_eq w n) [
         | inl e ↦ false≢true (sym free ∙ subst (λ (x : ℕ). HasPair wave.barred s x) e b)

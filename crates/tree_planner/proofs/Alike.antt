@@ -4,7 +4,6 @@ use Rattle.std.proofs.Common.{length, Contains, refl, sym, ap, ◌∙◌, subst,
 use Rattle.std.proofs.lemmas.Bool.{false≢true}
 use Rattle.std.proofs.lemmas.List.{ext_get_or}
 use Rattle.node_ids.specs.Sets.{HasPair}
-use Rattle.rack_tree.specs.declared.TheConstants.{MAX_WORKERS}
 use Rattle.rack_tree.specs.Tree.{reach, Tree}
 use Rattle.wave_problem.specs.declared.lines.WorkerLine.{WorkerLine}
 use Rattle.wave_problem.specs.Wave.{live_among, live_holders, split_at, worker_in, Wave}
@@ -54,14 +53,14 @@ carried one other s tree pending holders down up e is = record {
 }
 
 module _ (one other : Wave) (s : ℕ) (tree : other.tree ≡ one.tree)
-    (workers : length other.workers ≡ length one.workers) (few : length one.workers ≤ MAX_WORKERS)
-    (bars : (w : ℕ) → w < MAX_WORKERS → HasPair other.barred s w ↔ HasPair one.barred s w) where
+    (workers : length other.workers ≡ length one.workers)
+    (bars : (w : ℕ) → HasPair other.barred s w ↔ HasPair one.barred s w) where
   bar_down : (v : TreeNode) → HasBarUnder other s v → HasBarUnder one s v
   bar_down v b = (
     b.0,
     (let l = b.1 in omega arith),
     subst (λ (x : Tree). is_under x (Worker b.0) v ≡ true) tree b.2,
-    (bars b.0 (let l = b.1 in omega arith)).0 b.3,
+    (bars b.0).0 b.3,
   )
 
   bar_up : (v : TreeNode) → HasBarUnder one s v → HasBarUnder other s v
@@ -69,7 +68,7 @@ module _ (one other : Wave) (s : ℕ) (tree : other.tree ≡ one.tree)
     b.0,
     (let l = b.1 in omega arith),
     subst (λ (x : Tree). is_under x (Worker b.0) v ≡ true) (sym tree) b.2,
-    (bars b.0 (let l = b.1 in omega arith)).1 b.3,
+    (bars b.0).1 b.3,
   )
 
   pub ends_alike : (split_at other s).pending ≡ (split_at one s).pending

@@ -1,18 +1,20 @@
 -- Under which nodes workers are barred.
-use Rattle.std.proofs.Common.{◌≡◌, ℕ, zero, suc, ◌+◌, ◌<◌, Bool, true, false, cond, refl, ap, ◌∙◌}
-use Rattle.std.proofs.Common.{subst, inl, inr, ◌↔◌, arith, length, slice_index, add-one}
-use Rattle.std.specs.Prelude.{◌≢◌, IfSome, Option, Some, None}
-use Rattle.std.proofs.lemmas.Bool.{cases_Bool, cases_eq, eq-eqb, ne_eqb, false≢true}
-use Rattle.node_ids.specs.Sets.{HasPair, has_number, place_of_pair}
+use Rattle.std.proofs.Common.{◌≡◌, ℕ, ◌+◌, ◌<◌, Bool, true, false, cond, refl, ap, ◌∙◌}
+use Rattle.std.proofs.Common.{sym, ◌⊎◌, List, [], get_or, Contains, subst, inl, inr, ◌↔◌, arith, length, slice_index}
+use Rattle.std.proofs.lemmas.List.{get_or_default}
+use Rattle.std.proofs.lemmas.List.Folds.{list_any_at, Any-from_list_any}
+use Rattle.std.specs.Prelude.{◌≢◌, ◌==◌, IfSome, Option, Some, None, slice_index_or}
+use Rattle.tree_planner.specs.Ends.{IsIn}
+use Rattle.std.proofs.lemmas.Bool.{eq-eqb, eqb-true, ne_eqb, false≢true}
 use Rattle.rack_tree.specs.Tree.{Tree, centre_at}
 use Rattle.wave_problem.specs.Wave.{Wave}
 use Rattle.tree_flow.specs.declared.node_table.NodeTable.{NodeTable}
 use Rattle.tree_flow.specs.declared.nodes.TreeNode.{TreeNode}
 use Rattle.tree_flow.specs.declared.nodes.TreeNode.TheVariants.{Worker, Rack, Centre, Cluster}
-use Rattle.tree_planner.specs.Bars.{bar_below}
 use Rattle.tree_flow.specs.Nodes.{is_under, HasBarUnder, IsNode}
-use Rattle.tree_flow.specs.Table.{at_or, HasNode, IsOver}
-use Rattle.tree_planner.proofs.Added.{has_node}
+use Rattle.tree_flow.specs.Table.{at_or, HasNode, IsOver, IsSized}
+use Rattle.tree_planner.proofs.Added.{has_node, over_sized}
+use Rattle.tree_planner.proofs.Tops.{from_below}
 use Rattle.tree_flow.proofs.Moved.{same_or_not}
 
 -- a table of marks, if there is one, has each node of the tree
@@ -52,75 +54,92 @@ module _ (tree : Tree) (w : ℕ) (a b c d e : NodeTable Bool)
       ]
   marked_above Cluster = four.0
 
--- one worker more
-pub bar_below-next : (wave : Wave) (s n : ℕ) (v : TreeNode) → bar_below wave s v (n + 1)
-    ≡ cond (cond (is_under wave.tree (Worker n) v) (has_number wave.barred (place_of_pair s n)) false) true
-    (bar_below wave s v n)
-bar_below-next wave s n v = ap (λ (m : ℕ). bar_below wave s v m) (add-one n)
+-- a worker is in a row just where it stands at a place of it
+pub in_row-at : (row : List ℕ) (w k : ℕ) → k < length row → get_or row k 0 ≡ w → IsIn row w
+in_row-at row w k few is = list_any_at (λ v. v == w) row k 0 few (eq-eqb (get_or row k 0) w is)
 
-pub next_barred : (under barred : Bool) (before : Bool) → barred ≡ true
-    → cond under true before ≡ cond (cond under barred false) true before
-next_barred true barred before is = rw is refl
-next_barred false barred before is = refl
+pub at_in_row : (row : List ℕ) (w : ℕ) → IsIn row w → (k : ℕ) × (k < length row) × (get_or row k 0 ≡ w)
+at_in_row row w there =
+    let any = Any-from_list_any (λ v. v == w) row there in (
+      any.0,
+      any.2,
+      get_or_default row any.0 0 any.1 any.2 ∙ any.3 ∙ eqb-true any.1 w any.4,
+    )
 
-pub next_free : (under barred : Bool) (before : Bool) → barred ≡ false
-    → before ≡ cond (cond under barred false) true before
-next_free true barred before is = rw is refl
-next_free false barred before is = refl
+pub contains_in_row : (row : List ℕ) (w : ℕ) → IsIn row w → Contains row w
+contains_in_row row w there = (let at = at_in_row row w there in
+    (at.0, at.1, get_or_default row at.0 w 0 at.1 ∙ at.2))
 
--- one of the first n is barred there
-record IsBarredBelow (wave : Wave) (s : ℕ) (v : TreeNode) (n : ℕ) : Type 0 where
-  pub worker : ℕ
-  pub few : worker < n
-  pub under : is_under wave.tree (Worker worker) v ≡ true
-  pub barred : HasPair wave.barred s worker
+-- the worker at a place of a row is the tree's and stands under the node
+abbrev pub IsBarAt : Wave → TreeNode → List ℕ → ℕ → Type 0
+IsBarAt wave v row k = (get_or row k 0 < length wave.workers)
+    × (is_under wave.tree (Worker (get_or row k 0)) v ≡ true)
 
-found_bar : (wave : Wave) (s : ℕ) (v : TreeNode) (n : ℕ) → bar_below wave s v n ≡ true → IsBarredBelow wave s v n
-found_bar wave s v zero is = absurd (false≢true is)
-found_bar wave s v (suc n) is = elim (cases_Bool (is_under wave.tree (Worker n) v)) [
-  | inl under ↦ elim (cases_Bool (has_number wave.barred (place_of_pair s n))) [
-    | inl barred ↦ record { worker = n; few = omega arith; under = under; barred = barred }
-    | inr free ↦ (let rest = found_bar wave s v n (rw (under, free) at is) in more n rest)
-  ]
-  | inr off ↦ (let rest = found_bar wave s v n (rw off at is) in more n rest)
-]
-  where
-    more : (n : ℕ) → IsBarredBelow wave s v n → IsBarredBelow wave s v (suc n)
-    more n rest = record {
-      worker = rest.worker;
-      few = (let l = rest.few in omega arith);
-      under = rest.under;
-      barred = rest.barred;
-    }
+-- a mark that is put where a worker stands under the node
+pub marked_iff : (under before : Bool) → (cond under true before ≡ true) ↔ ((before ≡ true) ⊎ (under ≡ true))
+marked_iff true before = (λ is. inr refl, λ either. refl)
+marked_iff false before = (
+  λ is. inl is,
+  λ either. elim either [
+    | inl is ↦ is
+    | inr off ↦ absurd (false≢true off)
+  ],
+)
 
-bar_found : (wave : Wave) (s : ℕ) (v : TreeNode) (n : ℕ) → IsBarredBelow wave s v n → bar_below wave s v n ≡ true
-bar_found wave s v zero b = absurd (let l = b.few in omega arith)
-bar_found wave s v (suc n) b = elim (cases_eq b.worker n) [
-  | inl e ↦
-      (let under : is_under wave.tree (Worker n) v ≡ true =
-      subst (λ (w : ℕ). is_under wave.tree (Worker w) v ≡ true) e b.under in
-      let barred : has_number wave.barred (place_of_pair s n) ≡ true =
-      subst (λ (w : ℕ). HasPair wave.barred s w) e b.barred in
-      rw (under, barred) refl)
-  | inr d ↦
-      (let rest = bar_found wave s v n (record {
-        worker = b.worker;
-        few = (let l = b.few in omega arith);
-        under = b.under;
-        barred = b.barred;
-      }) in
-      kept (cond (is_under wave.tree (Worker n) v) (has_number wave.barred (place_of_pair s n)) false)
-      (bar_below wave s v n) rest)
-]
-  where
-    kept : (x before : Bool) → before ≡ true → cond x true before ≡ true
-    kept true before is = refl
-    kept false before is = is
+-- the table has the nodes above the first n workers of a row marked
+pub record AreMarked (wave : Wave) (row : List ℕ) (n : ℕ) (bars : NodeTable Bool) : Type 0 where
+  pub over : IsOver wave.tree bars
+  pub each : (v : TreeNode) → (at_or bars false v ≡ true) ↔ ((k : ℕ) × (k < n) × IsBarAt wave v row k)
 
-pub bar_iff : (wave : Wave) (s : ℕ) (v : TreeNode) → (bar_below wave s v (length wave.workers) ≡ true)
-    ↔ HasBarUnder wave s v
-bar_iff wave s v = (
-  λ is. (let b = found_bar wave s v (length wave.workers) is in (b.worker, b.few, b.under, b.barred)),
-  λ b. bar_found wave s v (length wave.workers)
-      (record { worker = b.0; few = b.1; under = b.2; barred = b.3 }),
+module _ (wave : Wave) (row : List ℕ) (n : ℕ) (old : NodeTable Bool) (marked : AreMarked wave row n old) where
+  pub mark_next : (new : NodeTable Bool) → get_or row n 0 < length wave.workers → IsSized old new
+      → ((v : TreeNode) → at_or new false v
+      ≡ cond (is_under wave.tree (Worker (get_or row n 0)) v) true (at_or old false v))
+      → AreMarked wave row (n + 1) new
+  mark_next new known sized same = record {
+    over = over_sized wave.tree old new marked.over sized;
+    each = λ v.
+        (let iff = marked_iff (is_under wave.tree (Worker (get_or row n 0)) v) (at_or old false v) in
+        from_below (IsBarAt wave v row) n (
+          λ is. elim (iff.0 (sym (same v) ∙ is)) [
+            | inl before ↦ inl before
+            | inr under ↦ inr (known, under)
+          ],
+          λ either. same v ∙ iff.1 (elim either [
+            | inl before ↦ inl before
+            | inr bar ↦ inr bar.1
+          ]),
+        ) (marked.each v));
+  }
+
+  pub skip_next : (get_or row n 0 < length wave.workers → ⊥) → AreMarked wave row (n + 1) old
+  skip_next past = record {
+    over = marked.over;
+    each = λ v. from_below (IsBarAt wave v row) n (
+      λ is. inl is,
+      λ either. elim either [
+        | inl before ↦ before
+        | inr bar ↦ absurd (past bar.0)
+      ],
+    ) (marked.each v);
+  }
+
+-- the workers of the split's row are its bars
+pub bar_iff : (wave : Wave) (s : ℕ) (row : List ℕ) → row ≡ slice_index_or wave.barred s [] → (v : TreeNode)
+    → ((k : ℕ) × (k < length row) × IsBarAt wave v row k) ↔ HasBarUnder wave s v
+bar_iff wave s row is v = (
+  λ at. (
+    get_or row at.0 0,
+    at.2.0,
+    at.2.1,
+    subst (λ xs. IsIn xs (get_or row at.0 0)) is (in_row-at row (get_or row at.0 0) at.0 at.1 refl),
+  ),
+  λ b. (let there = at_in_row row b.0 (subst (λ xs. IsIn xs b.0) (sym is) b.3) in (
+    there.0,
+    there.1,
+    (
+      subst (λ (w : ℕ). w < length wave.workers) (sym there.2) b.1,
+      subst (λ (w : ℕ). is_under wave.tree (Worker w) v ≡ true) (sym there.2) b.2,
+    ),
+  )),
 )

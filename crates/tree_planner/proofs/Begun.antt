@@ -1,5 +1,6 @@
 -- A search that has not come to a node yet, and what is left of one that forgets the nodes that it came to.
-use Rattle.std.proofs.Common.{subst, ◌≡◌, ℕ, ◌+◌, ◌-◌, ◌^◌, ◌<◌, ◌≤◌, ◌⊎◌, length, refl, sym, ap, ◌∙◌, inl, inr, arith}
+use Rattle.std.proofs.Common.{◌≡◌, ℕ, ◌+◌, ◌-◌, ◌*◌, ◌^◌, ◌<◌, ◌≤◌, ◌⊎◌, ◌∙◌, length, subst, refl, sym, ap}
+use Rattle.std.proofs.Common.{List, get_or, inl, inr, arith}
 use Rattle.std.specs.Prelude.{◌≢◌}
 use Rattle.std.proofs.lemmas.Bool.{cases_lt}
 use Rattle.rack_tree.specs.Tree.{Tree}
@@ -9,18 +10,15 @@ use Rattle.tree_flow.proofs.Moved.{same_or_not}
 use Rattle.tree_planner.specs.declared.search.Goal.TheVariants.{Wait}
 use Rattle.tree_planner.specs.declared.search.Ground.{Ground}
 use Rattle.tree_planner.specs.declared.search.Search.{Search}
-use Rattle.tree_planner.specs.Searching.{far_at, order_at, reached_at, wave_of, HasReached, HasTables, IsBlank, IsGround}
-use Rattle.tree_planner.specs.Searching.{IsCovered, IsSearching}
-use Rattle.tree_flow.specs.declared.node_table.NodeTable.{NodeTable}
-use Rattle.tree_flow.specs.declared.nodes.TreeNode.TheVariants.{Rack}
-use Rattle.tree_flow.specs.Table.{at_or, IsOver}
-use Rattle.tree_planner.specs.declared.search.Cover.{Cover}
+use Rattle.tree_planner.specs.Searching.{far_at, order_at, place_at, reached_at, wave_of, HasReached}
+use Rattle.tree_planner.specs.Searching.{HasTables, IsBlank, IsCovered, IsGround, IsSearching}
+use Rattle.tree_planner.specs.declared.covers.Cover.{Cover}
+use Rattle.tree_planner.specs.Covers.{no_cover}
 
 pub begun : (g : Ground) → IsGround g → (search : Search) → IsBlank (wave_of g).tree (length g.nodes.now) search
     → (split least : ℕ) → split < length (wave_of g).splits → least ≤ reward (wave_of g)
-    → (covers : NodeTable Cover) → IsOver (wave_of g).tree covers
-    → ((v : TreeNode) → at_or covers (record { offset = 2 ^ 55; split = split }) v
-    ≡ record { offset = 2 ^ 55; split = split })
+    → (covers : List Cover) → length covers ≡ length (wave_of g).tree.centre_of
+    → ((r : ℕ) → get_or covers r no_cover ≡ no_cover)
     → IsSearching g (record search {
       split = split;
       least = least;
@@ -49,18 +47,21 @@ begun g ground search blank split least known most covers over uncovered =
         far = blank.tables.far;
         how = blank.tables.how;
         order = blank.tables.order;
+        places = blank.tables.places;
         covers = over;
       };
       reached = record {
         room = omega arith;
+        blocks = (let room = blank.room in let blocks = blank.blocks in omega arith);
         known = λ k l. absurd (omega arith);
         near = λ k l. absurd (omega arith);
         once = λ j k l m. absurd (omega arith);
-        each = λ v near. absurd (let far = blank.far v in omega arith);
+        placed = λ v near. absurd (let far = blank.far v in omega arith);
         looked = λ v some. absurd (let none = blank.none v in omega arith);
       };
       room = blank.room;
       fit = omega arith;
+      floors = λ v near none. absurd (let far = blank.far v in omega arith);
       limit = omega arith;
       bound = omega arith;
       few = λ v. (let none = blank.none v in omega arith);
@@ -69,8 +70,8 @@ begun g ground search blank split least known most covers over uncovered =
       goal = refl;
       bottom = λ v some. (let far = blank.far v in omega arith);
       shut = λ v some. absurd (let none = blank.none v in omega arith);
-      covered = λ r. subst (λ cover. IsCovered g begins cover r) (sym (uncovered (Rack r))) (record {
-        known = known;
+      covered = λ r. subst (λ cover. IsCovered g begins cover r) (sym (uncovered r)) (record {
+        known = omega arith;
         near = λ v left. omega arith;
       });
     }
@@ -86,7 +87,7 @@ IsForgotten old now k v = ((2 ^ 54 ≤ far_at now v) × (order_at now v ≡ 0)) 
 pub forgotten_first : (tree : Tree) (old : Search) → HasReached tree old → old.limit < 2 ^ 54 → (v : TreeNode)
     → IsForgotten old old 0 v
 forgotten_first tree old r short v = elim (cases_lt (far_at old v) (2 ^ 54)) [
-  | inl near ↦ inr (let at = r.each v near in (at.0, omega arith, at.1, at.2))
+  | inl near ↦ inr (let at = r.placed v near in (place_at old v, omega arith, at.0, at.1))
   | inr past ↦ inl (
     past,
     elim (cases_lt 0 (order_at old v)) [
@@ -122,11 +123,13 @@ forgotten_next old now new k node is far none far_others order_others v before =
 ]
 
 pub all_forgotten : (tree : Tree) (old now : Search) → HasTables tree now
-    → length now.reached.nodes.items ≡ length old.reached.nodes.items → (k : ℕ) → old.reached.count ≤ k
+    → length now.reached.nodes.items ≡ length old.reached.nodes.items
+    → length old.reached.nodes.items < 32 * length now.reached.floors.items → (k : ℕ) → old.reached.count ≤ k
     → ((v : TreeNode) → IsForgotten old now k v) → IsBlank tree (length old.reached.nodes.items) now
-all_forgotten tree old now tables room k most forgotten = record {
+all_forgotten tree old now tables room blocks k most forgotten = record {
   tables = tables;
   room = room;
+  blocks = blocks;
   far = λ v. elim (forgotten v) [
     | inl done ↦ done.0
     | inr later ↦ absurd (let past = later.1 in let l = later.2 in omega arith)

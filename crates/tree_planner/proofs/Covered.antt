@@ -1,19 +1,19 @@
 -- Ends in groups, in a search.
 use Rattle.std.proofs.Common.{◌≡◌, refl, ℕ, ◌+◌, ◌*◌, ◌<◌, ◌≤◌, inl, inr, List, length, get_or, Contains, subst, sym, ap, ◌∙◌, arith}
 use Rattle.std.proofs.lemmas.List.Elements.{Contains-get_or}
-use Rattle.node_ids.specs.Sets.{has_number, Has}
+use Rattle.node_ids.specs.Sets.{is_in_row}
 use Rattle.wave_problem.specs.Wave.{reward, split_at, Wave}
 use Rattle.tree_flow.specs.declared.nodes.End.{End}
 use Rattle.tree_flow.specs.Nodes.{IsEnd}
 use Rattle.tree_planner.specs.declared.search.Ground.{Ground}
 use Rattle.tree_planner.specs.declared.split_ends.Group.{Group}
 use Rattle.tree_planner.specs.declared.split_ends.Group.TheVariants.{Workers}
-use Rattle.tree_planner.specs.Ends.{ends_at, AreEnds, Grouped, HasEnd, IsLeft, IsOf}
+use Rattle.tree_planner.specs.Ends.{ends_at, AreEnds, Grouped, HasEnd, IsIn, IsLeft, IsOf}
 use Rattle.tree_planner.specs.Searching.{state_at, wave_of, AreOf, Improves, IsCovered, IsGround, IsLeaving, IsOut, IsOverTo, IsSearching}
 use Rattle.tree_planner.specs.Searching.{IsStartedAt}
 use Rattle.tree_planner.specs.Choosing.{IsLeast}
 use Rattle.tree_flow.specs.State.{reach_cost}
-use Rattle.tree_planner.specs.declared.search.Cover.{Cover}
+use Rattle.tree_planner.specs.declared.covers.Cover.{Cover}
 use Rattle.tree_flow.specs.declared.nodes.TreeNode.TheVariants.{Worker, Rack, Centre, Cluster}
 use Rattle.std.proofs.lemmas.Bool.{cases_Bool, false≢true}
 use Rattle.tree_planner.specs.declared.over.Leaving.{Leaving}
@@ -27,7 +27,7 @@ use Rattle.tree_flow.specs.declared.nodes.TreeNode.{TreeNode}
 pub of_group : (wave : Wave) (all : List Grouped) → AreEnds wave all → (s : ℕ) → s < length wave.splits
     → (ends : Grouped) → ends ≡ ends_at all s → (groups : List Group) → groups ≡ ends.groups
     → (k : ℕ) → k < length groups → (x : End)
-    → IsOf wave.tree (Has ends.barred) (get_or groups k first) x → IsEnd wave s x
+    → IsOf wave.tree (IsIn ends.barred) (get_or groups k first) x → IsEnd wave s x
 of_group wave all are s known ends is groups same k l x of =
     (are.each s x known).0 (subst (λ ends. HasEnd wave.tree ends x) is (record {
       group = get_or groups k first;
@@ -38,7 +38,7 @@ of_group wave all are s known ends is groups same k l x of =
 pub group_ends : (g : Ground) → IsGround g → (s : ℕ) → s < length (wave_of g).splits
     → (ends : Grouped) → ends ≡ ends_at g.ends.now s → (groups : List Group) → groups ≡ ends.groups
     → (k : ℕ) → k < length groups → (x : End)
-    → IsOf (wave_of g).tree (Has ends.barred) (get_or groups k first) x → IsEnd (wave_of g) s x
+    → IsOf (wave_of g).tree (IsIn ends.barred) (get_or groups k first) x → IsEnd (wave_of g) s x
 group_ends g ground = of_group (wave_of g) g.ends.now ground.ends
 
 module _ (g : Ground) (old new : Search) (i : Improves old new) (m : Leaving) (l : IsLeaving g old m) where
@@ -96,7 +96,7 @@ pub rest_over : (g : Ground) (search : Search) (m : Leaving) (Out : ℕ → Type
     → IsOverTo g search m.end m.split (record { node = Worker w; level = level }))
     → (v : TreeNode) → IsLeft (wave_of g).tree Out r v → IsOverTo g search m.end m.split (record { node = v; level = level })
 rest_over g search m Out r level ground leaving cover covered less rest (Worker w) l =
-    elim (cases_Bool (has_number (ends_at g.ends.now cover.split).barred w)) [
+    elim (cases_Bool (is_in_row (ends_at g.ends.now cover.split).barred w)) [
       | inl out ↦ rest w out l
       | inr none ↦
           (let near = covered.near (Worker w) (l.0, l.1, λ out. false≢true (sym none ∙ out)) in
@@ -112,13 +112,13 @@ rest_over g search m Out r level ground leaving cover covered less rest Cluster 
 pub over_covers : (g : Ground) (search : Search) (m : Leaving) (ends : Grouped) (r level : ℕ)
     → IsLeaving g search m → ends ≡ ends_at g.ends.now m.split → (offset : ℕ)
     → offset + m.spent ≡ m.far + (split_at (wave_of g) m.split).bytes * (2 * level) + reward (wave_of g)
-    → ((x : End) → IsOf (wave_of g).tree (Has ends.barred) (Workers r level) x → IsOverTo g search m.end m.split x)
+    → ((x : End) → IsOf (wave_of g).tree (IsIn ends.barred) (Workers r level) x → IsOverTo g search m.end m.split x)
     → IsCovered g search (record { offset = offset; split = m.split }) r
 over_covers g search m ends r level leaving is offset same over = record {
   known = leaving.known;
   near = λ v left.
       (let step = over (record { node = v; level = level })
-      (subst (λ (e : Grouped). IsLeft (wave_of g).tree (Has e.barred) r v) (sym is) left, refl) in
+      (subst (λ (e : Grouped). IsLeft (wave_of g).tree (IsIn e.barred) r v) (sym is) left, refl) in
       let far = leaving.far in
       let spent = leaving.spent in
       omega arith);
@@ -128,13 +128,13 @@ over_covers g search m ends r level leaving is offset same over = record {
 pub start_covers : (g : Ground) (search : Search) (ends : Grouped) (r level : ℕ) → IsSearching g search
     → search.split < length (wave_of g).splits → ends ≡ ends_at g.ends.now search.split → (offset : ℕ)
     → offset ≡ (split_at (wave_of g) search.split).bytes * (2 * level) + search.limit
-    → ((x : End) → IsOf (wave_of g).tree (Has ends.barred) (Workers r level) x → IsStartedAt g search x)
+    → ((x : End) → IsOf (wave_of g).tree (IsIn ends.barred) (Workers r level) x → IsStartedAt g search x)
     → IsCovered g search (record { offset = offset; split = search.split }) r
 start_covers g search ends r level s known is offset same started = record {
   known = known;
   near = λ v left.
       (let start = started (record { node = v; level = level })
-      (subst (λ (e : Grouped). IsLeft (wave_of g).tree (Has e.barred) r v) (sym is) left, refl) in
+      (subst (λ (e : Grouped). IsLeft (wave_of g).tree (IsIn e.barred) r v) (sym is) left, refl) in
       let limit = s.limit in
       omega arith);
 }

@@ -7,7 +7,7 @@ use Rattle.tree_flow.specs.declared.node_table.NodeTable.{NodeTable}
 use Rattle.tree_flow.specs.declared.nodes.TreeNode.{TreeNode}
 use Rattle.tree_planner.specs.declared.search.Search.{Search}
 use Rattle.tree_flow.specs.Table.{at_node}
-use Rattle.tree_planner.specs.Searching.{far_at, reached_at, HasReached}
+use Rattle.tree_planner.specs.Searching.{far_at, place_at, reached_at, HasReached}
 use Rattle.tree_planner.specs.Way.{AreDeeper, IsDeeper}
 
 -- of the nodes that were come to the first k lie deeper, and all others as before
@@ -55,8 +55,8 @@ module _ (tree : Tree) (search : Search) (r : HasReached tree search) (most : �
       → AreDeeperTo most old search new search.reached.count → AreDeeper most old search new
   all_deeper new small low bound limit all v = elim (cases_lt (far_at search v) (2 ^ 54)) [
     | inl near ↦
-        (let at = r.each v near in
-        subst (λ v. IsDeeper most old search new v) at.2 (all.done at.0 at.1))
+        (let at = r.placed v near in
+        subst (λ v. IsDeeper most old search new v) at.1 (all.done (place_at search v) at.0))
     | inr past ↦
         (let same = all.left v (λ j m e.
         (let near = r.near j m in

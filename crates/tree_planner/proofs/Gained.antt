@@ -9,7 +9,7 @@ use Rattle.wave_problem.specs.declared.lines.WorkerLine.{WorkerLine}
 use Rattle.wave_problem.specs.Wave.{worker_at, worker_in, Wave}
 use Rattle.tree_flow.specs.Slots.{with_workers}
 use Rattle.tree_planner.specs.Events.{slot_more, with_free}
-use Rattle.tree_planner.specs.Going.{bare, HasLine, HasMore, HasSameGround, IsHeldBack}
+use Rattle.tree_planner.specs.Going.{bare, HasLine, HasSameGround, IsHeldBack}
 use Rattle.tree_planner.proofs.Lines.{set_here, set_other, set_size}
 
 abbrev line_with : Bool → ℕ → WorkerLine

@@ -1,5 +1,5 @@
 -- From a hole above the workers units go down to a node that hangs from it.
-use Rattle.std.proofs.Common.{◌≡◌, ℕ, ◌+◌, ◌<◌, ◌∷◌, [], ◌++◌, false, None, Some, List, length, get_or}
+use Rattle.std.proofs.Common.{◌≡◌, ℕ, ◌+◌, ◌<◌, ◌∷◌, [], ◌++◌, false, None, Some, length, get_or}
 use Rattle.std.proofs.Common.{refl, sym, ap, ◌∙◌}
 use Rattle.std.proofs.Common.{inr, length-append, arith}
 use Rattle.std.specs.Prelude.{◌≢◌}

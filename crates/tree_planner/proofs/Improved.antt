@@ -1,12 +1,15 @@
 -- What stays where nodes come nearer.
 use Rattle.std.proofs.Common.{◌≡◌, ℕ, ◌+◌, ◌^◌, ◌<◌, ◌≤◌, refl, sym, ap, ◌∙◌, subst, inl, inr, arith, length}
-use Rattle.std.proofs.Common.{count_by, get_or, get_or-set_same, get_or-set_other, slice_set}
+use Rattle.std.proofs.Common.{◌/◌, List, count_by, get_or, get_or-set_same, get_or-set_other, length-set, slice_set}
 use Rattle.std.specs.Prelude.{◌≢◌, nat_lt}
-use Rattle.std.proofs.lemmas.Bool.{cases_lt, le-ltb, lt-ltb, ltb-true}
+use Rattle.std.proofs.lemmas.Bool.{cases_eq, cases_lt, le-ltb, lt-ltb, ltb-true}
 use Rattle.rack_tree.specs.Tree.{Tree}
-use Rattle.tree_flow.specs.declared.nodes.TreeNode.TheVariants.{Cluster, Rack}
+use Rattle.tree_flow.specs.declared.nodes.TreeNode.TheVariants.{Cluster}
 use Rattle.tree_planner.specs.declared.reached.Reached.{Reached}
-use Rattle.tree_planner.specs.Searching.{has_come, reached_at, HasReached, HasRoom, HasTables, IsGround}
+use Rattle.tree_planner.specs.Reaching.{HasRoom, IsNoted}
+use Rattle.tree_planner.specs.Searching.{floor_at, has_come, place_at, reached_at, HasReached}
+use Rattle.tree_planner.specs.Searching.{HasTables, IsGround}
+use Rattle.tree_planner.proofs.Added.{over_sized}
 use Rattle.tree_planner.proofs.Counted.{count_grows, count_less}
 use Rattle.tree_planner.proofs.Room.{room_left}
 use Rattle.tree_flow.specs.declared.node_table.NodeTable.{NodeTable}
@@ -20,10 +23,12 @@ use Rattle.tree_planner.specs.declared.search.Step.{Step}
 use Rattle.tree_planner.specs.declared.search.Step.TheVariants.{Start, Down, Up, Over}
 use Rattle.tree_flow.specs.Nodes.{parent, IsEnd, IsNode}
 use Rattle.tree_flow.specs.State.{reach_cost, sum_under}
-use Rattle.tree_planner.specs.Searching.{order_at, far_at, step_at, state_at, wave_of, EndsIn, GoesAllOver, HasLookedFrom, IsNearest, Settles}
-use Rattle.tree_planner.specs.Searching.{cover_at, EndsInSlot, IsCovered, IsFound, IsLastOne}
-use Rattle.tree_planner.specs.declared.search.Cover.{Cover}
-use Rattle.tree_planner.specs.Searching.{HasStarted, IsStartedAt, Improves, IsAt, IsBefore, IsDown, IsNearer, IsSearching, LeadsTo}
+use Rattle.tree_planner.specs.Searching.{order_at, far_at, step_at, state_at, wave_of, EndsIn, GoesAllOver}
+use Rattle.tree_planner.specs.Searching.{cover_at, EndsInSlot, HasLookedFrom, IsCovered, IsFound}
+use Rattle.tree_planner.specs.declared.covers.Cover.{Cover}
+use Rattle.tree_planner.specs.Covers.{no_cover}
+use Rattle.tree_planner.specs.Searching.{HasStarted, IsStartedAt, Improves, IsAt, IsBefore, IsDown, IsLastOne}
+use Rattle.tree_planner.specs.Searching.{IsNearer, IsNearest, IsSearching, LeadsTo, Settles}
 use Rattle.tree_flow.specs.Table.{at_or, IsOver}
 use Rattle.tree_flow.proofs.Moved.{same_or_not}
 
@@ -208,16 +213,14 @@ improves_trans a b c i j = record {
 
 -- a node that was come to nearer
 module _ (old : Search) (far : NodeTable ℕ) (how : NodeTable Step) (node : TreeNode) (distance : ℕ) (step : Step)
-    (bound : distance < old.bound) (near : distance < far_at old node) (short : distance < 2 ^ 54) (b : ℕ) (end : Goal) (less : b ≤ old.bound)
+    (bound : distance < old.bound) (near : distance < far_at old node) (short : distance < 2 ^ 54) (b : ℕ)
+    (end : Goal) (less : b ≤ old.bound)
     (beyond : (u : TreeNode) → 0 < order_at old u → far_at old u ≤ distance)
     (here : (d : ℕ) → at_or far d node ≡ distance)
     (others : (d : ℕ) (v : TreeNode) → v ≢ node → at_or far d v ≡ at_or old.far d v)
     (how_here : (d : Step) → at_or how d node ≡ step)
     (how_others : (d : Step) (v : TreeNode) → v ≢ node → at_or how d v ≡ at_or old.how d v)
-    (row : Reached) (row_room : length row.nodes.items ≡ length old.reached.nodes.items)
-    (row_count : 2 ^ 54 ≤ far_at old node → row.count ≡ old.reached.count + 1)
-    (row_node : 2 ^ 54 ≤ far_at old node → row.nodes.items ≡ slice_set old.reached.nodes.items old.reached.count node)
-    (row_same : far_at old node < 2 ^ 54 → row ≡ old.reached) where
+    (row : Reached) (noted : IsNoted old.reached row node (far_at old node) distance) where
   abbrev reached : Search
   reached = record old { far = far; how = how; reached = row; bound = b; goal = end }
 
@@ -248,28 +251,47 @@ module _ (old : Search) (far : NodeTable ℕ) (how : NodeTable Step) (node : Tre
   far_there : far_at reached node ≡ distance
   far_there = here (2 ^ 54)
 
+  -- the row is as long as before
+  row_room : length row.nodes.items ≡ length old.reached.nodes.items
+  row_room = elim (cases_lt (far_at old node) (2 ^ 54)) [
+    | inl before ↦ ap (λ (r : Reached). length r.nodes.items) (noted.same before)
+    | inr fresh ↦
+        ap length (noted.fresh fresh).nodes
+        ∙ length-set old.reached.nodes.items old.reached.count node
+  ]
+
   -- the row has the node, where it was not come to before
   row_kept : (tree : Tree) → IsNode tree node → HasReached tree old → old.bound ≤ old.limit → old.limit < 2 ^ 54
-      → (2 ^ 54 ≤ far_at old node → HasRoom old) → HasReached tree reached
+      → HasRoom old.reached node (far_at old node) → HasReached tree reached
   row_kept tree known r most short room = elim (cases_lt (far_at old node) (2 ^ 54)) [
     | inl before ↦
-        (let same = row_same before in
-        subst (λ row. HasReached tree (record old { far = far; how = how; reached = row; bound = b; goal = end })) (sym same)
+        (let same = noted.same before in
+        let size = noted.blocks in
+        let floors = row.floors in
+        subst (λ row. HasReached tree (record old {
+          far = far;
+          how = how;
+          reached = row;
+          bound = b;
+          goal = end;
+        })) (sym same)
         (record {
           room = r.room;
+          blocks = (let blocks = r.blocks in omega arith);
           known = r.known;
           near = λ k l. (let less = reach_nearer.far (reached_at old k) in let near = r.near k l in omega arith);
           once = r.once;
-          each = λ v near. elim (same_or_not v node) [
-            | inl e ↦ r.each v (let a = ap (far_at old) e in omega arith)
-            | inr n ↦ r.each v (let same = others (2 ^ 54) v n in omega arith)
+          placed = λ v near. elim (same_or_not v node) [
+            | inl e ↦ r.placed v (let a = ap (far_at old) e in omega arith)
+            | inr n ↦ r.placed v (let same = others (2 ^ 54) v n in omega arith)
           ];
           looked = λ v some. (let less = reach_nearer.far v in let near = r.looked v some in omega arith);
         }))
     | inr fresh ↦
-        (let count = row_count fresh in
-        let set = row_node fresh in
-        let space = room fresh in
+        (let count = (noted.fresh fresh).count in
+        let set = (noted.fresh fresh).nodes in
+        let place = (noted.fresh fresh).place in
+        let space = room.fresh fresh in
         let own : reached_at reached old.reached.count ≡ node =
         ap (λ items. get_or items old.reached.count Cluster) set
         ∙ get_or-set_same old.reached.nodes.items old.reached.count node Cluster space in
@@ -278,6 +300,7 @@ module _ (old : Search) (far : NodeTable ℕ) (how : NodeTable Step) (node : Tre
         ∙ get_or-set_other old.reached.nodes.items old.reached.count k node Cluster (λ e. omega arith)) in
         record {
           room = (let size = row_room in omega arith);
+          blocks = (let size = row_room in let floors = noted.blocks in let blocks = r.blocks in omega arith);
           known = λ k l. elim (cases_lt k old.reached.count) [
             | inl less ↦ subst (IsNode tree) (sym (other k less)) (r.known k less)
             | inr past ↦
@@ -307,11 +330,16 @@ module _ (old : Search) (far : NodeTable ℕ) (how : NodeTable Step) (node : Tre
                 let is = ap (far_at old) (sym (other j first) ∙ e ∙ ap (reached_at reached) last ∙ own) in
                 omega arith))
           ];
-          each = λ v near. elim (same_or_not v node) [
-            | inl e ↦ (old.reached.count, omega arith, own ∙ sym e)
+          placed = λ v near. elim (same_or_not v node) [
+            | inl e ↦
+                (let here = ap (place_at reached) e in
+                (omega arith, ap (reached_at reached) (here ∙ place) ∙ own ∙ sym e))
             | inr n ↦
-                (let at = r.each v (let same = others (2 ^ 54) v n in omega arith) in
-                (at.0, (let l = at.1 in omega arith), other at.0 at.1 ∙ at.2))
+                (let at = r.placed v (let same = others (2 ^ 54) v n in omega arith) in
+                let same = noted.others v n in (
+                  (let l = at.0 in omega arith),
+                  ap (reached_at reached) same ∙ other (place_at old v) at.0 ∙ at.1,
+                ))
           ];
           looked = λ v some. (let less = reach_nearer.far v in let near = r.looked v some in omega arith);
         })
@@ -322,30 +350,65 @@ module _ (old : Search) (far : NodeTable ℕ) (how : NodeTable Step) (node : Tre
       → old.reached.count ≤ count_by (has_come old) g.nodes.now → row.count ≤ count_by (has_come reached) g.nodes.now
   row_fit g ground known fit = elim (cases_lt (far_at old node) (2 ^ 54)) [
     | inl before ↦
-        (let same = ap (λ (r : Reached). r.count) (row_same before) in
+        (let same = ap (λ (r : Reached). r.count) (noted.same before) in
         let grows = count_grows (has_come old) (has_come reached) (λ v come. lt-ltb (far_at reached v) (2 ^ 54)
-        (let less = reach_nearer.far v in let near = ltb-true (far_at old v) (2 ^ 54) come in omega arith)) g.nodes.now in
+        (let less = reach_nearer.far v in let near = ltb-true (far_at old v) (2 ^ 54) come in omega arith))
+        g.nodes.now in
         omega arith)
     | inr fresh ↦
-        (let count = row_count fresh in
+        (let count = (noted.fresh fresh).count in
         let more = count_less (has_come reached) (has_come old) node
-        (lt-ltb (far_at reached node) (2 ^ 54) (let there = far_there in omega arith)) (le-ltb (far_at old node) (2 ^ 54) fresh)
-        (λ v n. ap (λ (d : ℕ). nat_lt d (2 ^ 54)) (sym (others (2 ^ 54) v n))) g.nodes.now (ground.nodes.each node known) in
+        (lt-ltb (far_at reached node) (2 ^ 54) (let there = far_there in omega arith))
+        (le-ltb (far_at old node) (2 ^ 54) fresh)
+        (λ v n. ap (λ (d : ℕ). nat_lt d (2 ^ 54)) (sym (others (2 ^ 54) v n))) g.nodes.now
+        (ground.nodes.each node known) in
+        omega arith)
+  ]
+
+  -- no node that was not looked from is nearer than the floor of its block
+  row_floors : (tree : Tree) → HasReached tree old
+      → ((v : TreeNode) → far_at old v < 2 ^ 54 → order_at old v ≡ 0
+      → floor_at old (place_at old v) ≤ far_at old v)
+      → (v : TreeNode) → far_at reached v < 2 ^ 54 → order_at old v ≡ 0
+      → floor_at reached (place_at reached v) ≤ far_at reached v
+  row_floors tree r floors v come none = elim (same_or_not v node) [
+    | inl e ↦
+        (let is = ap (λ v. floor_at reached (place_at reached v)) e in
+        let there = far_there in
+        let a = ap (far_at reached) e in
+        let here = noted.here in
+        omega arith)
+    | inr n ↦
+        (let same = others (2 ^ 54) v n in
+        let before : far_at old v < 2 ^ 54 = omega arith in
+        let at = (r.placed v before).0 in
+        let floor = floors v before none in
+        let is = ap (floor_at reached) (noted.others v n) in
+        let lower = noted.lower (place_at old v / 32) (omega arith) in
         omega arith)
   ]
 
   pub reach_improves : Improves old reached
   reach_improves = record { nearer = reach_nearer; looked = refl; order = refl }
 
-  pub reach_kept : (g : Ground) → IsGround g → IsNode (wave_of g).tree node → IsOver (wave_of g).tree far → IsOver (wave_of g).tree how → IsSearching g old
+  pub reach_kept : (g : Ground) → IsGround g → IsNode (wave_of g).tree node → IsOver (wave_of g).tree far
+      → IsOver (wave_of g).tree how → IsSearching g old
       → (order_at old node ≡ 0 → LeadsTo g old node distance step) → EndsIn g reached b end
       → ((v : TreeNode) → 0 < sum_under (wave_of g) v (state_at g).free → b ≤ far_at reached v) → IsSearching g reached
   reach_kept g ground known over_far over_how s leads ends bottom = record {
-    tables = record { far = over_far; how = over_how; order = s.tables.order; covers = s.tables.covers };
-    reached = row_kept (wave_of g).tree known s.reached s.bound (let small = ground.small in let limit = s.limit in omega arith)
+    tables = record {
+      far = over_far;
+      how = over_how;
+      order = s.tables.order;
+      places = over_sized (wave_of g).tree old.reached.places row.places s.tables.places noted.size;
+      covers = s.tables.covers;
+    };
+    reached = row_kept (wave_of g).tree known s.reached s.bound
+        (let small = ground.small in let limit = s.limit in omega arith)
         (room_left g old ground s node known);
     room = row_room ∙ s.room;
     fit = row_fit g ground known s.fit;
+    floors = row_floors (wave_of g).tree s.reached s.floors;
     limit = s.limit;
     bound = (let most = s.bound in omega arith);
     few = s.few;
@@ -353,12 +416,14 @@ module _ (old : Search) (far : NodeTable ℕ) (how : NodeTable Step) (node : Tre
       | inl e ↦ subst (λ v. LeadsTo g reached v (far_at reached v) (step_at reached v)) (sym e)
           (subst (λ d. LeadsTo g reached node d (step_at reached node)) (sym (here (2 ^ 54)))
           (subst (λ st. LeadsTo g reached node distance st) (sym (how_here Down))
-          (leads_kept old reached reach_nearer (λ u x b. b) (λ u some. some) g node distance step (leads is_open))))
+          (leads_kept old reached reach_nearer (λ u x b. b) (λ u some. some) g node distance step
+          (leads is_open))))
       | inr n ↦
           (let same = others (2 ^ 54) v n in
           subst (λ d. LeadsTo g reached v d (step_at reached v)) (sym same)
           (subst (λ st. LeadsTo g reached v (far_at old v) st) (sym (how_others Down v n))
-          (leads_kept old reached reach_nearer (λ u x b. b) (λ u some. some) g v (far_at old v) (step_at old v) (s.steps v (omega arith)))))
+          (leads_kept old reached reach_nearer (λ u x b. b) (λ u some. some) g v (far_at old v)
+          (step_at old v) (s.steps v (omega arith)))))
     ];
     level = λ u v some none.
         (let one = reach_nearer.settled u some in
@@ -433,22 +498,26 @@ module _ (old : Search) (goal : Goal) (distance : ℕ) (bound : distance < old.b
       far = s.tables.far;
       how = s.tables.how;
       order = s.tables.order;
+      places = s.tables.places;
       covers = s.tables.covers;
     };
     reached = record {
       room = s.reached.room;
+      blocks = s.reached.blocks;
       known = s.reached.known;
       near = s.reached.near;
       once = s.reached.once;
-      each = s.reached.each;
+      placed = s.reached.placed;
       looked = s.reached.looked;
     };
     room = s.room;
     fit = s.fit;
+    floors = s.floors;
     limit = s.limit;
     bound = (let most = s.bound in omega arith);
     few = s.few;
-    steps = λ v less. leads_kept old arrived arrive_nearer (λ u x b. b) (λ u some. some) g v (far_at old v) (step_at old v) (s.steps v less);
+    steps = λ v less. leads_kept old arrived arrive_nearer (λ u x b. b) (λ u some. some) g v (far_at old v)
+        (step_at old v) (s.steps v less);
     level = s.level;
     goal = ends_kept old arrived arrive_nearer (λ u x b. b) (λ u some. some) g distance goal ends;
     bottom = λ v some. (let past = s.bottom v some in omega arith);
@@ -513,15 +582,16 @@ module _ (g : Ground) (old : Search) (order : NodeTable ℕ) (c : TreeNode) (s :
       (s.steps v less)
 
   settle_tables : HasTables (wave_of g).tree old → HasTables (wave_of g).tree settled
-  settle_tables t = record { far = t.far; how = t.how; order = over; covers = t.covers }
+  settle_tables t = record { far = t.far; how = t.how; order = over; places = t.places; covers = t.covers }
 
   settle_reached : HasReached (wave_of g).tree old → far_at old c < old.limit → HasReached (wave_of g).tree settled
   settle_reached r reached = record {
     room = r.room;
+    blocks = r.blocks;
     known = r.known;
     near = r.near;
     once = r.once;
-    each = r.each;
+    placed = r.placed;
     looked = λ v some. elim (same_or_not v c) [
       | inl e ↦ (let a = ap (far_at old) e in omega arith)
       | inr n ↦ r.looked v (let same = others v n in omega arith)
@@ -534,6 +604,7 @@ module _ (g : Ground) (old : Search) (order : NodeTable ℕ) (c : TreeNode) (s :
     reached = settle_reached s.reached (let near = nearest.near in let most = s.bound in omega arith);
     room = s.room;
     fit = s.fit;
+    floors = λ v near none. s.floors v near (was_open v none);
     limit = s.limit;
     bound = s.bound;
     few = λ v. elim (same_or_not v c) [
@@ -598,9 +669,8 @@ module _ (g : Ground) (old : Search) (order : NodeTable ℕ) (c : TreeNode) (s :
   }
 
 -- more is known of the workers of one rack
-module _ (old : Search) (covers : NodeTable Cover) (rack : ℕ) (cover : Cover)
-    (here : (d : Cover) → at_or covers d (Rack rack) ≡ cover)
-    (others : (d : Cover) (v : TreeNode) → v ≢ Rack rack → at_or covers d v ≡ at_or old.covers d v) where
+module _ (old : Search) (covers : List Cover) (rack : ℕ) (cover : Cover) (known : rack < length old.covers)
+    (put : covers ≡ slice_set old.covers rack cover) where
   abbrev covering : Search
   covering = record old { covers = covers }
 
@@ -617,20 +687,27 @@ module _ (old : Search) (covers : NodeTable Cover) (rack : ℕ) (cover : Cover)
   pub covered_improves : Improves old covering
   covered_improves = record { nearer = covered_nearer; looked = refl; order = refl }
 
-  pub covered_kept : (g : Ground) → IsOver (wave_of g).tree covers → IsSearching g old → IsCovered g old cover rack
-      → IsSearching g covering
-  covered_kept g over s covered = record {
-    tables = record { far = s.tables.far; how = s.tables.how; order = s.tables.order; covers = over };
+  pub covered_kept : (g : Ground) → IsSearching g old → IsCovered g old cover rack → IsSearching g covering
+  covered_kept g s covered = record {
+    tables = record {
+      far = s.tables.far;
+      how = s.tables.how;
+      order = s.tables.order;
+      places = s.tables.places;
+      covers = ap length put ∙ length-set old.covers rack cover ∙ s.tables.covers;
+    };
     reached = record {
       room = s.reached.room;
+      blocks = s.reached.blocks;
       known = s.reached.known;
       near = s.reached.near;
       once = s.reached.once;
-      each = s.reached.each;
+      placed = s.reached.placed;
       looked = s.reached.looked;
     };
     room = s.room;
     fit = s.fit;
+    floors = s.floors;
     limit = s.limit;
     bound = s.bound;
     few = s.few;
@@ -640,15 +717,14 @@ module _ (old : Search) (covers : NodeTable Cover) (rack : ℕ) (cover : Cover)
     goal = ends_kept old covering covered_nearer (λ u x b. b) (λ u some. some) g old.bound old.goal s.goal;
     bottom = s.bottom;
     shut = s.shut;
-    covered = λ r. elim (same_or_not (Rack r) (Rack rack)) [
-      | inl e ↦ subst (λ (q : ℕ). IsCovered g covering (cover_at covering q) q) (rack_same r rack e)
-          (subst (λ cover. IsCovered g covering cover rack) (sym (here (record { offset = 2 ^ 55; split = old.split })))
+    covered = λ r. elim (cases_eq r rack) [
+      | inl e ↦ subst (λ (q : ℕ). IsCovered g covering (cover_at covering q) q) (sym e)
+          (subst (λ cover. IsCovered g covering cover rack)
+          (sym (ap (λ cs. get_or cs rack no_cover) put
+          ∙ get_or-set_same old.covers rack cover no_cover known))
           (cover_kept old covering covered_nearer g cover rack covered))
       | inr n ↦ subst (λ cover. IsCovered g covering cover r)
-          (sym (others (record { offset = 2 ^ 55; split = old.split }) (Rack r) n))
+          (sym (ap (λ cs. get_or cs r no_cover) put ∙ get_or-set_other old.covers rack r cover no_cover n))
           (cover_kept old covering covered_nearer g (cover_at old r) r (s.covered r))
     ];
   }
-    where
-      rack_same : (r q : ℕ) → Rack r ≡ Rack q → q ≡ r
-      rack_same r q e = grind arith

@@ -37,4 +37,5 @@ pub mod Below
 pub mod Descended
 pub mod Placed
 pub mod Flagged
+pub mod Floors
 pub mod Paired

@@ -1,6 +1,6 @@
 -- A node from which all steps were taken.
-use Rattle.std.proofs.Common.{◌≡◌, ℕ, ◌+◌, ◌^◌, ◌<◌, ◌≤◌, min, List, length, get_or, Contains, sym, ap, ◌∙◌, subst}
-use Rattle.std.proofs.Common.{inl, inr, ◌⊎◌, arith}
+use Rattle.std.proofs.Common.{◌≡◌, ℕ, ◌+◌, ◌*◌, ◌/◌, ◌^◌, ◌<◌, ◌≤◌, ◌⊎◌, ◌∙◌, min, List, length, get_or}
+use Rattle.std.proofs.Common.{Contains, sym, ap, subst, inl, inr, arith}
 use Rattle.std.specs.Prelude.{◌≢◌}
 use Rattle.std.proofs.lemmas.Bool.{cases_lt}
 use Rattle.std.proofs.lemmas.List.{get_or_default, get_or_past}
@@ -8,7 +8,6 @@ use Rattle.rack_tree.specs.Tree.{Tree}
 use Rattle.tree_flow.specs.declared.node_table.NodeTable.{NodeTable}
 use Rattle.tree_flow.specs.declared.nodes.TreeNode.{TreeNode}
 use Rattle.tree_flow.specs.declared.nodes.TreeNode.TheVariants.{Worker, Rack, Centre, Cluster}
-use Rattle.tree_planner.specs.declared.search.Candidate.{Candidate}
 use Rattle.tree_planner.specs.declared.search.Ground.{Ground}
 use Rattle.tree_planner.specs.declared.search.Search.{Search}
 use Rattle.wave_problem.specs.Wave.{Wave}
@@ -23,7 +22,8 @@ use Rattle.tree_flow.proofs.Under.{under_worker}
 use Rattle.tree_planner.specs.Searching.{order_at, far_at, state_at, wave_of, GoesAllOver, HasLookedFrom, Improves, IsAt}
 use Rattle.tree_planner.specs.declared.search.Goal.TheVariants.{Slot}
 use Rattle.tree_planner.specs.Searching.{EndsIn, EndsInSlot, HasStarted, IsSearched}
-use Rattle.tree_planner.specs.Searching.{reached_at, IsCandidate, IsDown, IsGround, IsNearest, IsSearching, Settles}
+use Rattle.tree_planner.specs.Reaching.{floor_in}
+use Rattle.tree_planner.specs.Searching.{place_at, IsDown, IsGround, IsNearest, IsSearching, Settles}
 use Rattle.tree_flow.specs.Table.{at_or, IsOver}
 use Rattle.tree_planner.proofs.Improved.{improves_trans, some_same, down_kept, settle_kept, settle_at, settle_found}
 use Rattle.tree_planner.proofs.Improved.{settles_then}
@@ -50,21 +50,22 @@ known_or_not tree table d over (Centre c) = elim (cases_lt c tree.centres) [
 ]
 known_or_not tree table d over Cluster = inl tt
 
--- the nearest of the nodes that were come to and not looked from is the nearest of all
-pub least_of_all : (g : Ground) (search : Search) (best : Candidate) → IsGround g → IsSearching g search
-    → IsCandidate search best
-    → ((k : ℕ) → k < search.reached.count → order_at search (reached_at search k) ≡ 0
-    → best.far ≤ far_at search (reached_at search k))
-    → (v : TreeNode) → order_at search v ≡ 0 → best.far ≤ far_at search v
-least_of_all g search best ground s is seen v none = elim (cases_lt (far_at search v) (2 ^ 54)) [
+-- where no floor of a block in use is lower than a distance up to the bound, no node that was not looked from
+-- is nearer
+pub least_of_all : (g : Ground) (search : Search) (far : ℕ) → IsGround g → IsSearching g search
+    → far ≤ search.bound
+    → ((block : ℕ) → block * 32 < search.reached.count → far ≤ floor_in search.reached block)
+    → (v : TreeNode) → order_at search v ≡ 0 → far ≤ far_at search v
+least_of_all g search far ground s most low v none = elim (cases_lt (far_at search v) (2 ^ 54)) [
   | inl near ↦
-      (let at = s.reached.each v near in
-      subst (λ (v : TreeNode). order_at search v ≡ 0 → best.far ≤ far_at search v) at.2 (seen at.0 at.1) none)
+      (let at = (s.reached.placed v near).0 in
+      let floor = s.floors v near none in
+      let low = low (place_at search v / 32) (omega arith) in
+      omega arith)
   | inr past ↦
-      (let most = s.bound in
+      (let bound = s.bound in
       let limit = s.limit in
       let small = ground.small in
-      let far = is.far in
       omega arith)
 ]
 

@@ -16,8 +16,7 @@ use Rattle.tree_flow.specs.State.{State, place_of}
 use Rattle.tree_flow.proofs.Given.{changes}
 use Rattle.tree_planner.specs.declared.engine.Fixed.{Fixed}
 use Rattle.tree_planner.specs.declared.tables.Tables.{Tables}
-use Rattle.tree_planner.specs.Ends.{ends_at, no_ends, AreEnds, Grouped, HasEnd}
-use Rattle.node_ids.specs.Sets.{no_workers, Has}
+use Rattle.tree_planner.specs.Ends.{ends_at, no_ends, AreEnds, Grouped, HasEnd, IsIn}
 use Rattle.tree_planner.proofs.Grouped.{none_among}
 use Rattle.tree_planner.specs.Engine.{IsFixed, IsStanding}
 use Rattle.tree_planner.specs.Events.{with_pending}
@@ -141,9 +140,9 @@ module _ (wave : Wave) (s : ℕ) (pending : Bool) (known : s < length wave.split
 
 -- a split that is not pending has no ends
 pub none_ends : (wave : Wave) (s : ℕ) → s < length wave.splits → (e : End)
-    → HasEnd wave.tree (record { groups = []; barred = no_workers }) e ↔ IsEnd (with_pending wave s false) s e
+    → HasEnd wave.tree (record { groups = []; barred = [] }) e ↔ IsEnd (with_pending wave s false) s e
 none_ends wave s known e = (
-  λ has. absurd (none_among wave.tree (Has no_workers) e has),
+  λ has. absurd (none_among wave.tree (IsIn []) e has),
   λ is. absurd (false≢true (ap (λ (x : Split). x.pending) (sym
       (split_here wave s false known)) ∙ is.pending)),
 )

@@ -1,8 +1,7 @@
 -- Ends in a shared list of groups.
-use Rattle.std.proofs.Common.{◌≡◌, refl, suc, ◌+◌, ◌++◌, ◌∷◌, [], List, All, length, map, take, drop, ap, ◌∙◌, arith}
+use Rattle.std.proofs.Common.{◌≡◌, refl, suc, ◌++◌, ◌∷◌, [], List, All, length, map, take, drop, ap, ◌∙◌, arith}
 use Rattle.std.proofs.lemmas.List.{drop-append-le, length-drop, map-append, take-append-le, take_all}
 use Rattle.std.proofs.Math.Seq.{drop-append_seam}
-use Rattle.node_ids.specs.Sets.{no_workers}
 use Rattle.tree_planner.specs.declared.split_ends.Group.{Group}
 use Rattle.tree_planner.specs.declared.split_ends.Stored.{Stored}
 use Rattle.tree_planner.specs.declared.split_ends.Stored.TheVariants.{Shared, Own}
@@ -11,7 +10,7 @@ use Rattle.tree_planner.specs.Stored.{stored_at, IsWithin}
 
 -- ends with no worker left out
 abbrev unbarred : List Group → Grouped
-unbarred groups = record { groups = groups; barred = no_workers }
+unbarred groups = record { groups = groups; barred = [] }
 
 -- ends stay the same when the shared list grows
 stored_same : (shared more : List Group) (stored : Stored) → IsWithin (length shared) stored

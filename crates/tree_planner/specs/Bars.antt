@@ -1,13 +1,12 @@
 -- Under which nodes workers are barred for a split, and the ends that this leaves it.
-use Rattle.std.specs.Prelude.{ℕ, zero, suc, ◌≡◌, ◌*◌, ◌<◌, ◌≤◌, ◌⊎◌, ◌↔◌, Bool, true, false, cond, Option, Some, None}
+use Rattle.std.specs.Prelude.{ℕ, ◌≡◌, ◌*◌, ◌<◌, ◌≤◌, ◌⊎◌, ◌↔◌, Bool, true, false, Option, Some, None}
 use Rattle.std.specs.Prelude.{IfSome, List, slice_index_or}
-use Rattle.node_ids.specs.Sets.{has_number, place_of_pair, HasPair}
+use Rattle.node_ids.specs.Sets.{HasPair}
 use Rattle.rack_tree.specs.Tree.{reach}
 use Rattle.wave_problem.specs.Wave.{Wave, worker_at}
 use Rattle.tree_flow.specs.declared.node_table.NodeTable.{NodeTable}
 use Rattle.tree_flow.specs.declared.nodes.End.{End}
 use Rattle.tree_flow.specs.declared.nodes.TreeNode.{TreeNode}
-use Rattle.tree_flow.specs.declared.nodes.TreeNode.TheVariants.{Worker}
 use Rattle.tree_flow.specs.Nodes.{is_under, node_above, parent, HasBarUnder, IsNode}
 use Rattle.tree_flow.specs.Table.{at_or, IsOver}
 use Rattle.tree_planner.specs.declared.split_ends.Group.{Group}
@@ -22,13 +21,6 @@ bar_at (Some table) v = at_or table false v
 pub record AreBars (wave : Wave) (s : ℕ) (bars : Option (NodeTable Bool)) : Type 0 where
   pub over : IfSome bars (λ table. IsOver wave.tree table)
   pub each : (v : TreeNode) → IsNode wave.tree v → (bar_at bars v ≡ true) ↔ HasBarUnder wave s v
-
--- whether one of the first n workers is barred and stands under the node
-abbrev pub bar_below : Wave → ℕ → TreeNode → ℕ → Bool
-bar_below wave s v zero = false
-bar_below wave s v (suc n) = cond
-    (cond (is_under wave.tree (Worker n) v) (has_number wave.barred (place_of_pair s n)) false) true
-    (bar_below wave s v n)
 
 -- the end is the node of another, or one of the largest nodes under it without bars, at its level
 pub record IsTopEnd (wave : Wave) (s : ℕ) (top e : End) : Type 0 where

@@ -1,6 +1,7 @@
 -- The ends of all splits, in groups.
-use Rattle.std.specs.Prelude.{ℕ, ◌≡◌, ◌<◌, ◌↔◌, List, [], length, slice_index, slice_index_or, Contains}
-use Rattle.node_ids.specs.Sets.{Has}
+use Rattle.std.specs.Prelude.{ℕ, ◌≡◌, ◌<◌, ◌↔◌, List, [], length, slice_index, slice_index_or}
+use Rattle.std.specs.Prelude.{Contains, IsTrue}
+use Rattle.node_ids.specs.Sets.{is_in_row}
 use Rattle.rack_tree.specs.Tree.{Tree}
 use Rattle.wave_problem.specs.Wave.{Wave}
 use Rattle.tree_flow.specs.declared.nodes.End.{End}
@@ -9,6 +10,10 @@ use Rattle.tree_flow.specs.declared.nodes.TreeNode.TheVariants.{Worker}
 use Rattle.tree_flow.specs.Nodes.{IsEnd}
 use Rattle.tree_planner.specs.declared.split_ends.Group.{Group}
 use Rattle.tree_planner.specs.declared.split_ends.Group.TheVariants.{Single, Workers}
+
+-- the worker is in the row
+abbrev pub IsIn : List ℕ → ℕ → Type 0
+IsIn row w = IsTrue (is_in_row row w)
 
 -- the node is a worker of the rack that is not left out
 abbrev pub IsLeft : Tree → (ℕ → Type 0) → ℕ → TreeNode → Type 0
@@ -26,7 +31,7 @@ pub record IsAmong (tree : Tree) (Out : ℕ → Type 0) (groups : List Group) (e
   pub here : Contains groups group
   pub is_of : IsOf tree Out group e
 
--- the ends of a split: groups, and the workers that its groups leave out
+-- the ends of a split: groups, and a row of the workers that its groups leave out
 pub record Grouped : Type 0 where
   pub groups : List Group
   pub barred : List ℕ
@@ -35,7 +40,7 @@ abbrev pub no_ends : Grouped
 no_ends = record { groups = []; barred = [] }
 
 abbrev pub HasEnd : Tree → Grouped → End → Type 0
-HasEnd tree ends e = IsAmong tree (Has ends.barred) ends.groups e
+HasEnd tree ends e = IsAmong tree (IsIn ends.barred) ends.groups e
 
 -- the ends of the split s in a list of the ends of all
 abbrev pub ends_at : List Grouped → ℕ → Grouped

@@ -1,16 +1,15 @@
 -- What a search for a slot keeps to, and what it finds.
-use Rattle.std.specs.Prelude.{ℕ, ◌≡◌, ◌≢◌, ◌+◌, ◌^◌, ◌<◌, ◌≤◌, ◌⊎◌, min, length}
+use Rattle.std.specs.Prelude.{ℕ, ◌≡◌, ◌≢◌, ◌+◌, ◌*◌, ◌/◌, ◌^◌, ◌<◌, ◌≤◌, ◌⊎◌, min, length}
 use Rattle.std.specs.Prelude.{Bool, count_by, nat_lt, slice_index_or}
-use Rattle.node_ids.specs.Sets.{Has}
 use Rattle.rack_tree.specs.Tree.{Tree}
 use Rattle.wave_problem.specs.declared.TheConstants.{MAX_SPLITS}
 use Rattle.wave_problem.specs.Wave.{Wave, reward}
 use Rattle.tree_flow.specs.declared.nodes.End.{End}
 use Rattle.tree_flow.specs.declared.nodes.Place.TheVariants.{Stands}
 use Rattle.tree_flow.specs.declared.nodes.TreeNode.{TreeNode}
-use Rattle.tree_flow.specs.declared.nodes.TreeNode.TheVariants.{Cluster, Rack}
+use Rattle.tree_flow.specs.declared.nodes.TreeNode.TheVariants.{Cluster}
 use Rattle.tree_planner.specs.declared.search.Candidate.{Candidate}
-use Rattle.tree_planner.specs.declared.search.Cover.{Cover}
+use Rattle.tree_planner.specs.declared.covers.Cover.{Cover}
 use Rattle.tree_planner.specs.declared.search.Goal.{Goal}
 use Rattle.tree_planner.specs.declared.search.Goal.TheVariants.{Wait, Slot, Off}
 use Rattle.tree_planner.specs.declared.search.Ground.{Ground}
@@ -19,7 +18,9 @@ use Rattle.tree_planner.specs.declared.search.Search.{Search}
 use Rattle.tree_planner.specs.declared.search.Step.{Step}
 use Rattle.tree_planner.specs.declared.search.Step.TheVariants.{Start, Down, Up, Over}
 use Rattle.tree_planner.specs.declared.split_ends.Group.{Group}
-use Rattle.tree_planner.specs.Ends.{ends_at, AreEnds, IsLeft, IsOf}
+use Rattle.tree_planner.specs.Covers.{no_cover}
+use Rattle.tree_planner.specs.Ends.{ends_at, AreEnds, IsIn, IsLeft, IsOf}
+use Rattle.tree_planner.specs.Reaching.{floor_in, place_in}
 use Rattle.tree_planner.specs.Hanging.{AreChildren}
 use Rattle.tree_flow.specs.Moves.{IsLookedFrom}
 use Rattle.tree_flow.specs.Nodes.{parent, AreNodes, IsEnd, IsKnown, IsNode}
@@ -60,13 +61,21 @@ order_at search v = at_or search.order 0 v
 abbrev pub reached_at : Search → ℕ → TreeNode
 reached_at search k = slice_index_or search.reached.nodes.items k Cluster
 
--- what is known of the workers of a rack: nothing, where their distance with the reward is past twice the reward
+-- the place of a node among the nodes that were come to
+abbrev pub place_at : Search → TreeNode → ℕ
+place_at search v = place_in search.reached v
+
+-- the floor of the block of this place
+abbrev pub floor_at : Search → ℕ → ℕ
+floor_at search place = floor_in search.reached (place / 32)
+
+-- what is known of the workers of a rack
 abbrev pub cover_at : Search → ℕ → Cover
-cover_at search r = at_or search.covers (record { offset = 2 ^ 55; split = search.split }) (Rack r)
+cover_at search r = slice_index_or search.covers r no_cover
 
 -- a worker that the groups of the split leave out
 abbrev pub IsOut : Ground → ℕ → ℕ → Type 0
-IsOut g s w = Has (ends_at g.ends.now s).barred w
+IsOut g s w = IsIn (ends_at g.ends.now s).barred w
 
 -- what is of the group is an end of the split
 abbrev pub AreOf : Ground → ℕ → (ℕ → Type 0) → Group → Type 0
@@ -76,31 +85,31 @@ AreOf g s Out group = (x : End) → IsOf (wave_of g).tree Out group x → IsEnd 
 abbrev pub has_come : Search → TreeNode → Bool
 has_come search v = nat_lt (far_at search v) (2 ^ 54)
 
--- the nodes that were come to stand first in their row, each once, and the search has looked from no other
+-- the nodes that were come to stand first in their row, each once and at its place; there is a floor for each
+-- place; and the search has looked from no other node
 pub record HasReached (tree : Tree) (search : Search) : Type 0 where
   pub room : search.reached.count ≤ length search.reached.nodes.items
+  pub blocks : length search.reached.nodes.items < 32 * length search.reached.floors.items
   pub known : (k : ℕ) → k < search.reached.count → IsNode tree (reached_at search k)
   pub near : (k : ℕ) → k < search.reached.count → far_at search (reached_at search k) < search.limit
   pub once : (j k : ℕ) → j < k → k < search.reached.count → reached_at search j ≢ reached_at search k
-  pub each : (v : TreeNode) → far_at search v < 2 ^ 54
-      → (k : ℕ) × (k < search.reached.count) × (reached_at search k ≡ v)
+  pub placed : (v : TreeNode) → far_at search v < 2 ^ 54
+      → (place_at search v < search.reached.count) × (reached_at search (place_at search v) ≡ v)
   pub looked : (v : TreeNode) → 0 < order_at search v → far_at search v < search.limit
 
--- another one has room in the row
-abbrev pub HasRoom : Search → Type 0
-HasRoom search = search.reached.count < length search.reached.nodes.items
-
--- its tables have an entry for each node
+-- its tables have an entry for each node, and its covers for each rack
 pub record HasTables (tree : Tree) (search : Search) : Type 0 where
   pub far : IsOver tree search.far
   pub how : IsOver tree search.how
   pub order : IsOver tree search.order
-  pub covers : IsOver tree search.covers
+  pub places : IsOver tree search.reached.places
+  pub covers : length search.covers ≡ length tree.centre_of
 
 -- no node was come to yet, and there is room for so many
 pub record IsBlank (tree : Tree) (nodes : ℕ) (search : Search) : Type 0 where
   pub tables : HasTables tree search
   pub room : length search.reached.nodes.items ≡ nodes
+  pub blocks : nodes < 32 * length search.reached.floors.items
   pub far : (v : TreeNode) → 2 ^ 54 ≤ far_at search v
   pub none : (v : TreeNode) → order_at search v ≡ 0
 
@@ -185,6 +194,8 @@ pub record IsSearching (g : Ground) (search : Search) : Type 0 where
   pub reached : HasReached (wave_of g).tree search
   pub room : length search.reached.nodes.items ≡ length g.nodes.now
   pub fit : search.reached.count ≤ count_by (has_come search) g.nodes.now
+  pub floors : (v : TreeNode) → far_at search v < 2 ^ 54 → order_at search v ≡ 0
+      → floor_at search (place_at search v) ≤ far_at search v
   pub limit : search.limit + search.least ≡ reward (wave_of g)
   pub bound : search.bound ≤ search.limit
   pub few : (v : TreeNode) → order_at search v ≤ search.looked
@@ -261,6 +272,10 @@ pub record IsSearched (g : Ground) (search : Search) : Type 0 where
   pub searching : IsFound g search
   pub started : HasStarted g search
   pub looked : (u : TreeNode) → far_at search u < search.bound → HasLookedFrom g search u
+
+-- only floors of blocks are new
+abbrev pub AreFloorsNew : Search → Search → Type 0
+AreFloorsNew old new = new ≡ record old { reached = record old.reached { floors = new.reached.floors } }
 
 -- the nearest node that was not looked from, nearer than the bound
 pub record IsNearest (g : Ground) (search : Search) (c : TreeNode) : Type 0 where

@@ -1,5 +1,5 @@
 -- What is known of an engine from outside.
-use Rattle.std.specs.Prelude.{ℕ, ◌≡◌, ◌≢◌, ◌<◌, Bool, length, IsTrue}
+use Rattle.std.specs.Prelude.{ℕ, ◌≢◌, ◌<◌, Bool, length, IsTrue}
 use Rattle.wave_problem.specs.Wave.{Wave}
 use Rattle.tree_planner.specs.declared.tables.Tables.{Tables}
 use Rattle.tree_flow.specs.declared.nodes.Place.TheVariants.{Unshipped}

@@ -1,6 +1,5 @@
 -- Where the ends of splits are stored.
 use Rattle.std.specs.Prelude.{ℕ, ◌≡◌, ◌+◌, ◌≤◌, ◌++◌, ◌∷◌, ◌↔◌, [], ⊤, List, take, drop}
-use Rattle.node_ids.specs.Sets.{no_workers}
 use Rattle.wave_problem.specs.Wave.{Wave}
 use Rattle.tree_flow.specs.declared.nodes.End.{End}
 use Rattle.tree_flow.specs.Nodes.{IsEnd}
@@ -11,7 +10,7 @@ use Rattle.tree_planner.specs.Ends.{Grouped, HasEnd}
 
 -- the ends that are stored in this way, with the shared list of groups
 abbrev pub stored_at : List Group → Stored → Grouped
-stored_at shared (Shared from count) = record { groups = take count (drop from shared); barred = no_workers }
+stored_at shared (Shared from count) = record { groups = take count (drop from shared); barred = [] }
 stored_at shared (Own ends) = ends
 
 -- stored groups lie within a shared list of this length

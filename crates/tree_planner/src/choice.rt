@@ -3,10 +3,9 @@ ghost use Rattle.std.specs.Prelude.{◌≡◌, ◌<◌, ◌≤◌, ℕ, length, 
 ghost use Rattle.tree_flow.specs.declared.nodes.End.{End};
 ghost use Rattle.tree_flow.specs.Nodes.{IsEnd, IsNode};
 ghost use Rattle.tree_flow.specs.State.{reach_cost};
-ghost use Rattle.node_ids.specs.Sets.{Has};
 ghost use Rattle.tree_planner.specs.declared.split_ends.Group.TheVariants.{Workers};
 ghost use Rattle.tree_planner.specs.Choosing.{IsBetter, IsCheapest, IsChoice};
-ghost use Rattle.tree_planner.specs.Ends.{IsLeft, IsOf};
+ghost use Rattle.tree_planner.specs.Ends.{IsIn, IsLeft, IsOf};
 ghost use Rattle.tree_planner.specs.Searching.{state_at, wave_of, AreOf, IsGround};
 
 use crate::search::{Ground, cost_at, end_cost, ends_of, workers_in};
@@ -76,11 +75,11 @@ fn best_of(
 ) -> Cheapest
     requires ground { IsGround ground.now }
     requires split { split < length (wave_of ground.now).splits }
-    requires group { AreOf ground.now split (Has ends.now.barred) group }
+    requires group { AreOf ground.now split (IsIn ends.now.barred) group }
     requires cheapest { IsCheapest ground.now split best }
     ensures cheapest { IsCheapest ground.now split result }
     ensures before { result.least ≤ best.least }
-    ensures better { (x : End) → IsOf (wave_of ground.now).tree (Has ends.now.barred) group x
+    ensures better { (x : End) → IsOf (wave_of ground.now).tree (IsIn ends.now.barred) group x
         → result.least ≤ reach_cost (wave_of ground.now) (state_at ground.now) split x }
 {
     match group {
@@ -100,11 +99,11 @@ fn best_worker(
 ) -> Cheapest
     requires ground { IsGround ground.now }
     requires split { split < length (wave_of ground.now).splits }
-    requires group { AreOf ground.now split (Has ends.now.barred) (Workers rack level) }
+    requires group { AreOf ground.now split (IsIn ends.now.barred) (Workers rack level) }
     requires cheapest { IsCheapest ground.now split best }
     ensures cheapest { IsCheapest ground.now split result }
     ensures before { result.least ≤ best.least }
-    ensures better { (x : End) → IsOf (wave_of ground.now).tree (Has ends.now.barred) (Workers rack level) x
+    ensures better { (x : End) → IsOf (wave_of ground.now).tree (IsIn ends.now.barred) (Workers rack level) x
         → result.least ≤ reach_cost (wave_of ground.now) (state_at ground.now) split x }
 {
     let mut best = best;
@@ -129,11 +128,11 @@ fn better_node(
 ) -> Cheapest
     requires ground { IsGround ground.now }
     requires known { IsNode (wave_of ground.now).tree end.node }
-    requires group { AreOf ground.now split (Has ends.now.barred) (Workers rack end.level) }
+    requires group { AreOf ground.now split (IsIn ends.now.barred) (Workers rack end.level) }
     requires cheapest { IsCheapest ground.now split best }
     ensures cheapest { IsCheapest ground.now split result }
     ensures before { result.least ≤ best.least }
-    ensures better { IsLeft (wave_of ground.now).tree (Has ends.now.barred) rack end.node
+    ensures better { IsLeft (wave_of ground.now).tree (IsIn ends.now.barred) rack end.node
         → result.least ≤ reach_cost (wave_of ground.now) (state_at ground.now) split end }
 {
     if is_left(ground.problem.tree(), ends, rack, end.node) {

@@ -2,7 +2,6 @@
 ghost use Rattle.std.specs.Prelude.{◌≡◌, ◌<◌, ◌↔◌, ℕ, IsTrue, length};
 ghost use Rattle.node_ids.specs.Sets.{HasPair};
 ghost use Rattle.rack_tree.specs.Tree.{Tree};
-ghost use Rattle.rack_tree.specs.declared.TheConstants.{MAX_WORKERS};
 ghost use Rattle.wave_problem.specs.Wave.{live_holders};
 ghost use Rattle.tree_flow.specs.declared.nodes.End.{End};
 ghost use Rattle.tree_flow.specs.Nodes.{IsEnd};
@@ -139,8 +138,7 @@ fn has_same_holders(one: &Problem, other: &Problem, split: SplitNo) -> bool
 fn has_same_bars(one: &Problem, other: &Problem, split: SplitNo) -> bool
     requires one { split < length one.now.splits }
     requires other { split < length other.now.splits }
-    ensures { IsTrue result → (w : ℕ) → w < MAX_WORKERS
-        → HasPair other.now.barred split w ↔ HasPair one.now.barred split w }
+    ensures { IsTrue result → (w : ℕ) → HasPair other.now.barred split w ↔ HasPair one.now.barred split w }
 {
     let before = one.bars(split);
     let after = other.bars(split);

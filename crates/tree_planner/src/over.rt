@@ -1,13 +1,12 @@
 //! Steps of a search by which a split leaves the end at which it stands.
 ghost use Rattle.std.specs.Prelude.{◌≡◌, ◌+◌, ◌<◌, ◌≤◌, ℕ, length};
-ghost use Rattle.node_ids.specs.Sets.{Has};
 ghost use Rattle.tree_flow.specs.declared.nodes.End.{End};
 ghost use Rattle.tree_flow.specs.declared.nodes.Place.TheVariants.{Stands};
 ghost use Rattle.tree_flow.specs.declared.nodes.TreeNode.TheVariants.{Worker};
 ghost use Rattle.tree_flow.specs.Nodes.{IsEnd, IsNode};
 ghost use Rattle.tree_flow.specs.State.{place_of};
 ghost use Rattle.tree_planner.specs.declared.split_ends.Group.TheVariants.{Workers};
-ghost use Rattle.tree_planner.specs.Ends.{ends_at, IsLeft, IsOf};
+ghost use Rattle.tree_planner.specs.Ends.{ends_at, IsIn, IsLeft, IsOf};
 ghost use Rattle.tree_planner.specs.Searching.{state_at, wave_of, AreOf, GoesAllOver, Improves, IsAt, IsGround};
 ghost use Rattle.tree_planner.specs.Searching.{IsLeaving, IsOut, IsOverTo, IsSearching};
 
@@ -67,10 +66,10 @@ fn over_group(
     requires searching { IsSearching ground.now search.old }
     requires leaving { IsLeaving ground.now search.old leaving }
     requires ends { ends.now ≡ ends_at ground.now.ends.now leaving.split }
-    requires group { AreOf ground.now leaving.split (Has ends.now.barred) group }
+    requires group { AreOf ground.now leaving.split (IsIn ends.now.barred) group }
     ensures searching { IsSearching ground.now search.new }
     ensures improves { Improves search.old search.new }
-    ensures over { (x : End) → IsOf (wave_of ground.now).tree (Has ends.now.barred) group x
+    ensures over { (x : End) → IsOf (wave_of ground.now).tree (IsIn ends.now.barred) group x
         → IsOverTo ground.now search.new leaving.end leaving.split x }
 {
     match group {
@@ -93,10 +92,10 @@ fn over_workers(
     requires searching { IsSearching ground.now search.old }
     requires leaving { IsLeaving ground.now search.old leaving }
     requires ends { ends.now ≡ ends_at ground.now.ends.now leaving.split }
-    requires group { AreOf ground.now leaving.split (Has ends.now.barred) (Workers rack level) }
+    requires group { AreOf ground.now leaving.split (IsIn ends.now.barred) (Workers rack level) }
     ensures searching { IsSearching ground.now search.new }
     ensures improves { Improves search.old search.new }
-    ensures over { (x : End) → IsOf (wave_of ground.now).tree (Has ends.now.barred) (Workers rack level) x
+    ensures over { (x : End) → IsOf (wave_of ground.now).tree (IsIn ends.now.barred) (Workers rack level) x
         → IsOverTo ground.now search.new leaving.end leaving.split x }
 {
     if rack as usize >= ground.problem.tree().racks() {
@@ -107,7 +106,7 @@ fn over_workers(
     if search.bound + ground.reward <= offset {
         return;
     }
-    let cover = search.covers.get(TreeNode::Rack(rack));
+    let cover = search.covers.of(rack);
     if cover.offset <= offset {
         over_rest(ground, search, leaving, ends, rack, level, cover.split);
     } else {
@@ -128,10 +127,10 @@ fn over_all(
     requires ground { IsGround ground.now }
     requires searching { IsSearching ground.now search.old }
     requires leaving { IsLeaving ground.now search.old leaving }
-    requires group { AreOf ground.now leaving.split (Has ends.now.barred) (Workers rack level) }
+    requires group { AreOf ground.now leaving.split (IsIn ends.now.barred) (Workers rack level) }
     ensures searching { IsSearching ground.now search.new }
     ensures improves { Improves search.old search.new }
-    ensures over { (x : End) → IsOf (wave_of ground.now).tree (Has ends.now.barred) (Workers rack level) x
+    ensures over { (x : End) → IsOf (wave_of ground.now).tree (IsIn ends.now.barred) (Workers rack level) x
         → IsOverTo ground.now search.new leaving.end leaving.split x }
 {
     let nodes = workers_in(ground, rack);
@@ -160,19 +159,20 @@ fn over_rest(
     requires ground { IsGround ground.now }
     requires searching { IsSearching ground.now search.old }
     requires leaving { IsLeaving ground.now search.old leaving }
-    requires group { AreOf ground.now leaving.split (Has ends.now.barred) (Workers rack level) }
+    requires group { AreOf ground.now leaving.split (IsIn ends.now.barred) (Workers rack level) }
     requires other { other < length (wave_of ground.now).splits }
     ensures searching { IsSearching ground.now search.new }
     ensures improves { Improves search.old search.new }
     ensures over { (w : ℕ) → IsOut ground.now other w
-        → IsLeft (wave_of ground.now).tree (Has ends.now.barred) rack (Worker w)
+        → IsLeft (wave_of ground.now).tree (IsIn ends.now.barred) rack (Worker w)
         → IsOverTo ground.now search.new leaving.end leaving.split (record { node = Worker w; level = level }) }
 {
     let most = ground.problem.workers();
     let workers = ends_of(ground, other).barred();
     for worker in workers {
-        let node = TreeNode::Worker(*worker);
-        if (*worker as usize) < most {
+        let number = worker.index();
+        if number < most {
+            let node = TreeNode::Worker(number as u16);
             over_node(ground, search, leaving, ends, rack, End { node, level });
         }
     }
@@ -191,10 +191,10 @@ fn over_node(
     requires searching { IsSearching ground.now search.old }
     requires leaving { IsLeaving ground.now search.old leaving }
     requires known { IsNode (wave_of ground.now).tree end.node }
-    requires group { AreOf ground.now leaving.split (Has ends.now.barred) (Workers rack end.level) }
+    requires group { AreOf ground.now leaving.split (IsIn ends.now.barred) (Workers rack end.level) }
     ensures searching { IsSearching ground.now search.new }
     ensures improves { Improves search.old search.new }
-    ensures over { IsLeft (wave_of ground.now).tree (Has ends.now.barred) rack end.node
+    ensures over { IsLeft (wave_of ground.now).tree (IsIn ends.now.barred) rack end.node
         → IsOverTo ground.now search.new leaving.end leaving.split end }
 {
     if is_left(ground.problem.tree(), ends, rack, end.node) {

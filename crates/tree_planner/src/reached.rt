@@ -1,28 +1,55 @@
 //! The nodes that a search has come to.
-ghost use Rattle.std.specs.Prelude.{◌≡◌, ◌+◌, ◌^◌, ◌<◌, ◌≤◌, IfOk, length, slice_index_or, slice_set};
+ghost use Rattle.std.specs.Prelude.{ℕ, ◌≡◌, ◌+◌, ◌*◌, ◌/◌, ◌^◌, ◌<◌, ◌≤◌, IfOk, MatchOption, length, min};
+ghost use Rattle.std.specs.Prelude.{slice_index_or, slice_set};
+ghost use Rattle.rack_tree.specs.Tree.{Tree};
 ghost use Rattle.tree_flow.specs.declared.nodes.TreeNode.TheVariants.{Cluster};
+ghost use Rattle.tree_flow.specs.Table.{HasNode, IsOver};
+ghost use Rattle.tree_planner.specs.Reaching.{floor_in, HasRoom, IsLowest, IsNoted};
 
+use rack_tree::RackTree;
 use std::alloc::{AllocError, Global};
-use tree_flow::TreeNode;
+use tree_flow::{NodeTable, TreeNode};
 
 /// As far as no way goes.
 pub const FAR: u64 = 18_014_398_509_481_984;
 
-/// Nodes in a row, of which so many are the first.
+/// How many places of the row make a block. To find the nearest node, a search reads the floor of each block and
+/// then the nodes of one block or a few. A tree of 32,768 workers has about a thousand blocks of 32. Their floors
+/// lie side by side, so reading a thousand of them costs about as much as reading 32 nodes.
+pub const BLOCK: usize = 32;
+
+/// A block with the lowest floor, that floor, and a distance that no other block's floor is below.
+#[derive(Clone, Copy)]
+pub struct LowBlock {
+    pub block: usize,
+    pub floor: u64,
+    pub next: u64,
+}
+
+/// Nodes in a row, of which so many are the first; the place of each node in the row; and a floor for each
+/// block of places: no node there that the search has not looked from is nearer.
 #[derive(Drop)]
 pub struct Reached {
     pub nodes: Vec<TreeNode>,
     pub count: usize,
+    pub places: NodeTable<usize>,
+    pub floors: Vec<u64>,
 }
 
 impl Reached {
-    /// Room for so many nodes.
-    pub fn new(alloc: Global, nodes: usize) -> Result<Reached, AllocError>
+    /// Room for so many nodes of a tree.
+    pub fn new(alloc: Global, tree: &RackTree, nodes: usize) -> Result<Reached, AllocError>
         ensures room { IfOk result (λ reached. length reached.nodes.items ≡ nodes) }
+        ensures places { IfOk result (λ reached. IsOver tree.now reached.places) }
+        ensures floors { IfOk result (λ reached. nodes < 32 * length reached.floors.items) }
     {
+        let places = NodeTable::new(alloc, tree, 0)?;
+        let floors = vec![in alloc; 0; nodes / BLOCK + 1]?;
         Ok(Reached {
             nodes: vec![in alloc; TreeNode::Cluster; nodes]?,
             count: 0,
+            places,
+            floors,
         })
     }
 
@@ -34,18 +61,79 @@ impl Reached {
         self.nodes[k]
     }
 
-    /// Adds a node that was farther than any way goes; one that was nearer stands there already.
-    pub fn note(&mut self, node: TreeNode, far: u64)
-        requires room { 2 ^ 54 ≤ far → self.old.count < length self.old.nodes.items }
-        ensures room { length self.new.nodes.items ≡ length self.old.nodes.items }
-        ensures count { 2 ^ 54 ≤ far → self.new.count ≡ self.old.count + 1 }
-        ensures node { 2 ^ 54 ≤ far
-            → self.new.nodes.items ≡ slice_set self.old.nodes.items self.old.count node }
-        ensures same { far < 2 ^ 54 → self.new ≡ self.old }
+    /// Notes that a node, which was so far, is at this distance. A node that was farther than any way goes is
+    /// added to the row; one that was nearer stands there already.
+    pub fn note(&mut self, node: TreeNode, far: u64, distance: u64)
+        requires { HasRoom self.old node far }
+        ensures { IsNoted self.old self.new node far distance }
     {
         if far >= FAR {
-            self.nodes[self.count] = node;
-            self.count += 1;
+            self.add(node, distance);
+        } else {
+            let block = self.places.get(node) / BLOCK;
+            self.floors[block] = distance.min(self.floors[block]);
+        }
+    }
+
+    // Adds a node at this distance. The first of a block makes its floor anew.
+    fn add(&mut self, node: TreeNode, distance: u64)
+        requires { HasRoom self.old node (2 ^ 54) }
+        ensures { IsNoted self.old self.new node (2 ^ 54) distance }
+    {
+        let place = self.count;
+        let block = place / BLOCK;
+        if place % BLOCK == 0 || distance < self.floors[block] {
+            self.floors[block] = distance;
+        }
+        self.nodes[place] = node;
+        self.places.set(node, place);
+        self.count += 1;
+    }
+
+    /// Gives a block another floor.
+    pub fn raise(&mut self, block: usize, floor: u64)
+        requires { block < length self.old.floors.items }
+        ensures rest { self.new ≡ record self.old { floors = self.new.floors } }
+        ensures floors { self.new.floors.items ≡ slice_set self.old.floors.items block floor }
+    {
+        self.floors[block] = floor;
+    }
+
+    /// The block with the lowest floor, if this is below a distance: of two such blocks the first.
+    pub fn lowest_block(&self, below: u64) -> Option<LowBlock>
+        requires room { self.now.count ≤ length self.now.nodes.items }
+        requires floors { length self.now.nodes.items < 32 * length self.now.floors.items }
+        ensures { MatchOption result ((k : ℕ) → k * 32 < self.now.count → below ≤ floor_in self.now k)
+            (λ low. IsLowest self.now low below) }
+    {
+        let mut low = LowBlock {
+            block: 0,
+            floor: below,
+            next: below,
+        };
+        for k in 0..self.count.div_ceil(BLOCK) {
+            low = lower(low, k, self.floors[k]);
+        }
+        if low.floor < below { Some(low) } else { None }
+    }
+}
+
+// The lower block of the lowest one so far and another one.
+fn lower(low: LowBlock, block: usize, floor: u64) -> LowBlock
+    ensures lower { floor < low.floor → result ≡ record { block = block; floor = floor; next = low.floor } }
+    ensures other { low.floor ≤ floor → result ≡ record low { next = min floor low.next } }
+{
+    if floor < low.floor {
+        LowBlock {
+            block,
+            floor,
+            next: low.floor,
+        }
+    } else {
+        LowBlock {
+            block: low.block,
+            floor: low.floor,
+            next: floor.min(low.next),
         }
     }
 }

@@ -1,7 +1,6 @@
 //! A search for the cheapest way to give one split a slot.
-ghost use Rattle.std.specs.Prelude.{◌≡◌, ◌≢◌, ◌+◌, ◌*◌, ◌<◌, ◌≤◌, ◌^◌, ◌↔◌, min, ℕ, length, IfOk, IsTrue};
-ghost use Rattle.std.specs.Prelude.{All, Contains, MatchOption};
-ghost use Rattle.node_ids.specs.Sets.{Has};
+ghost use Rattle.std.specs.Prelude.{◌≡◌, ◌≢◌, ◌+◌, ◌*◌, ◌/◌, ◌<◌, ◌≤◌, ◌^◌, ◌↔◌, min, ℕ, length, IfOk};
+ghost use Rattle.std.specs.Prelude.{IsTrue, All, Contains, MatchOption};
 ghost use Rattle.wave_problem.specs.declared.TheConstants.{MAX_BYTES};
 ghost use Rattle.wave_problem.specs.Wave.{reward, split_at};
 ghost use Rattle.tree_flow.specs.declared.nodes.End.{End};
@@ -9,7 +8,7 @@ ghost use Rattle.tree_flow.specs.declared.nodes.Place.TheVariants.{Stands};
 ghost use Rattle.tree_flow.specs.declared.nodes.TreeNode.{TreeNode};
 ghost use Rattle.tree_flow.specs.declared.nodes.TreeNode.TheVariants.{Rack, Worker};
 ghost use Rattle.tree_planner.specs.Choosing.{IsLeast};
-ghost use Rattle.tree_planner.specs.Ends.{ends_at, IsLeft, IsOf};
+ghost use Rattle.tree_planner.specs.Ends.{ends_at, IsIn, IsLeft, IsOf};
 ghost use Rattle.tree_planner.specs.declared.split_ends.Group.TheVariants.{Workers};
 ghost use Rattle.tree_planner.specs.Hanging.{HangsFrom};
 ghost use Rattle.tree_planner.specs.declared.search.Ground.{Ground};
@@ -17,14 +16,17 @@ ghost use Rattle.tree_flow.specs.Nodes.{parent, IsEnd, IsNode};
 ghost use Rattle.tree_flow.specs.State.{place_of, reach_cost, slots_of, sum_under};
 ghost use Rattle.tree_planner.specs.Searching.{order_at, far_at, state_at, wave_of, EndsIn, HasLookedFrom};
 ghost use Rattle.tree_planner.specs.Searching.{HasStarted, Improves, IsAt, IsGround, IsSearched, IsSearching};
-ghost use Rattle.tree_planner.specs.Searching.{reached_at, HasReached, HasRoom, HasTables, IsBlank, IsCandidate};
+ghost use Rattle.tree_planner.specs.Reaching.{HasRoom};
+ghost use Rattle.tree_planner.specs.Searching.{place_at, reached_at, AreFloorsNew, HasReached, HasTables};
+ghost use Rattle.tree_planner.specs.Searching.{IsBlank, IsCandidate};
 ghost use Rattle.tree_planner.specs.Searching.{AreOf, IsCovered, IsLeaving, IsOut};
 ghost use Rattle.tree_planner.specs.Searching.{LeadsTo, IsNearest, IsStartedAt, Settles, IsDown, GoesAllOver, IsOverTo};
 ghost use Rattle.tree_flow.specs.Table.{HasNode, IsSized};
 
 use crate::children::Children;
+use crate::covers::{Cover, Covers};
 use crate::over::hand_over;
-use crate::reached::{FAR, Reached};
+use crate::reached::{BLOCK, FAR, Reached};
 use crate::split_ends::{AllEnds, Ends, Group, is_left};
 use crate::tables::Tables;
 use crate::tree_nodes::{is_same, parent};
@@ -79,18 +81,10 @@ pub struct Ground<'a> {
     pub tables: &'a Tables,
 }
 
-/// How near the workers of a rack are that some split's ends do not leave out: no farther than the offset with
-/// their depth, the reward taken off.
-#[derive(Clone, Copy)]
-pub struct Cover {
-    pub offset: u64,
-    pub split: u32,
-}
-
 /// Which split is shipped, what its cheapest end costs at least, and how far a way may go; how far each node
 /// is, how it was come to, as which one it was looked from; the nodes that were come to; how near the workers
-/// of each rack are; and the nearest end of a way, and how far it is. Its tables serve one search after another: between two of
-/// them no node has been come to.
+/// of each rack are; and the nearest end of a way, and how far it is. Its tables serve one search after
+/// another: between two of them no node has been come to.
 #[derive(Drop)]
 pub struct Search {
     pub split: u32,
@@ -100,7 +94,7 @@ pub struct Search {
     pub how: NodeTable<Step>,
     pub order: NodeTable<u64>,
     pub reached: Reached,
-    pub covers: NodeTable<Cover>,
+    pub covers: Covers,
     pub looked: u64,
     pub bound: u64,
     pub goal: Goal,
@@ -114,15 +108,8 @@ impl Search {
         let far = NodeTable::new(alloc, tree, FAR)?;
         let how = NodeTable::new(alloc, tree, Step::Down)?;
         let order = NodeTable::new(alloc, tree, 0)?;
-        let reached = Reached::new(alloc, nodes)?;
-        let covers = NodeTable::new(
-            alloc,
-            tree,
-            Cover {
-                offset: 0,
-                split: 0,
-            },
-        )?;
+        let reached = Reached::new(alloc, tree, nodes)?;
+        let covers = Covers::new(alloc, tree.racks())?;
         Ok(Search {
             split: 0,
             least: 0,
@@ -173,7 +160,7 @@ impl Search {
     pub fn reach(&mut self, node: TreeNode, distance: u64, step: Step, free: bool)
         requires far { HasNode self.old.far node }
         requires how { HasNode self.old.how node }
-        requires room { 2 ^ 54 ≤ far_at self.old node → HasRoom self.old }
+        requires room { HasRoom self.old.reached node (far_at self.old node) }
         requires beyond { (u : TreeNode) → 0 < order_at self.old u → far_at self.old u ≤ distance }
         ensures improves { Improves self.old self.new }
         ensures near { min self.new.bound (far_at self.new node) ≤ distance }
@@ -183,7 +170,7 @@ impl Search {
     {
         let far = self.far.get(node);
         if distance < self.bound && distance < far {
-            self.reached.note(node, far);
+            self.reached.note(node, far, distance);
             self.far.set(node, distance);
             self.how.set(node, step);
             if free {
@@ -208,14 +195,13 @@ impl Search {
 
     /// Notes how near the workers of a rack are that the groups of a split do not leave out.
     pub fn cover(&mut self, rack: u16, offset: u64, split: u32)
-        requires { HasNode self.old.covers (Rack rack) }
+        requires { rack < length self.old.covers }
         ensures improves { Improves self.old self.new }
         ensures kept { (g : Ground) → IsSearching g self.old
             → IsCovered g self.old (record { offset = offset; split = split }) rack → IsSearching g self.new }
         ensures same { self.new ≡ record self.old { covers = self.new.covers } }
     {
-        self.covers
-            .set(TreeNode::Rack(rack), Cover { offset, split });
+        self.covers.put(rack, Cover { offset, split });
     }
 
     // Puts the node next in order.
@@ -304,7 +290,8 @@ pub fn workers_in<'g>(ground: &'g Ground<'_>, rack: u16) -> &'g [TreeNode]
 /// What it costs the split to end at this level, at a node that lies at 0.
 pub fn end_cost(ground: &Ground<'_>, split: u32, level: u8) -> u64
     requires split { split < length (wave_of ground.now).splits }
-    ensures { result ≡ (split_at (wave_of ground.now) split).bytes * (2 * level) }
+    ensures cost { result ≡ (split_at (wave_of ground.now) split).bytes * (2 * level) }
+    ensures most { result ≤ 510 * MAX_BYTES }
 {
     ground.problem.bytes(SplitNo::new(split)) * (2 * u64::from(level))
 }
@@ -355,10 +342,7 @@ fn begin(ground: &Ground<'_>, search: &mut Search, split: u32, least: u64)
     search.goal = Goal::Wait;
     search.reached.count = 0;
     search.looked = 0;
-    search.covers.fill(Cover {
-        offset: 2 * FAR,
-        split,
-    });
+    search.covers.clear();
 }
 
 // Comes to the ends of the split.
@@ -385,11 +369,11 @@ fn start_group(ground: &Ground<'_>, search: &mut Search, ends: &Ends<'_>, group:
     requires searching { IsSearching ground.now search.old }
     requires none { (v : TreeNode) → order_at search.old v ≡ 0 }
     requires ends { ends.now ≡ ends_at ground.now.ends.now search.old.split }
-    requires group { AreOf ground.now search.old.split (Has ends.now.barred) group }
+    requires group { AreOf ground.now search.old.split (IsIn ends.now.barred) group }
     requires least { IsLeast (wave_of ground.now) (state_at ground.now) search.old.split search.old.least }
     ensures improves { Improves search.old search.new }
     ensures searching { IsSearching ground.now search.new }
-    ensures started { (x : End) → IsOf (wave_of ground.now).tree (Has ends.now.barred) group x
+    ensures started { (x : End) → IsOf (wave_of ground.now).tree (IsIn ends.now.barred) group x
         → IsStartedAt ground.now search.new x }
 {
     match group {
@@ -405,11 +389,11 @@ fn start_workers(ground: &Ground<'_>, search: &mut Search, ends: &Ends<'_>, rack
     requires searching { IsSearching ground.now search.old }
     requires none { (v : TreeNode) → order_at search.old v ≡ 0 }
     requires ends { ends.now ≡ ends_at ground.now.ends.now search.old.split }
-    requires group { AreOf ground.now search.old.split (Has ends.now.barred) (Workers rack level) }
+    requires group { AreOf ground.now search.old.split (IsIn ends.now.barred) (Workers rack level) }
     requires least { IsLeast (wave_of ground.now) (state_at ground.now) search.old.split search.old.least }
     ensures improves { Improves search.old search.new }
     ensures searching { IsSearching ground.now search.new }
-    ensures started { (x : End) → IsOf (wave_of ground.now).tree (Has ends.now.barred) (Workers rack level) x
+    ensures started { (x : End) → IsOf (wave_of ground.now).tree (IsIn ends.now.barred) (Workers rack level) x
         → IsStartedAt ground.now search.new x }
 {
     if rack as usize >= ground.problem.tree().racks() {
@@ -417,7 +401,7 @@ fn start_workers(ground: &Ground<'_>, search: &mut Search, ends: &Ends<'_>, rack
     }
     start_all(ground, search, ends, rack, level);
     let offset = end_cost(ground, search.split, level) + search.limit;
-    if offset < search.covers.get(TreeNode::Rack(rack)).offset {
+    if offset < search.covers.of(rack).offset {
         search.cover(rack, offset, search.split);
     }
 }
@@ -426,11 +410,11 @@ fn start_all(ground: &Ground<'_>, search: &mut Search, ends: &Ends<'_>, rack: u1
     requires ground { IsGround ground.now }
     requires searching { IsSearching ground.now search.old }
     requires none { (v : TreeNode) → order_at search.old v ≡ 0 }
-    requires group { AreOf ground.now search.old.split (Has ends.now.barred) (Workers rack level) }
+    requires group { AreOf ground.now search.old.split (IsIn ends.now.barred) (Workers rack level) }
     requires least { IsLeast (wave_of ground.now) (state_at ground.now) search.old.split search.old.least }
     ensures improves { Improves search.old search.new }
     ensures searching { IsSearching ground.now search.new }
-    ensures started { (x : End) → IsOf (wave_of ground.now).tree (Has ends.now.barred) (Workers rack level) x
+    ensures started { (x : End) → IsOf (wave_of ground.now).tree (IsIn ends.now.barred) (Workers rack level) x
         → IsStartedAt ground.now search.new x }
 {
     let nodes = workers_in(ground, rack);
@@ -444,11 +428,11 @@ fn start_node(ground: &Ground<'_>, search: &mut Search, ends: &Ends<'_>, rack: u
     requires searching { IsSearching ground.now search.old }
     requires none { (v : TreeNode) → order_at search.old v ≡ 0 }
     requires known { IsNode (wave_of ground.now).tree end.node }
-    requires group { AreOf ground.now search.old.split (Has ends.now.barred) (Workers rack end.level) }
+    requires group { AreOf ground.now search.old.split (IsIn ends.now.barred) (Workers rack end.level) }
     requires least { IsLeast (wave_of ground.now) (state_at ground.now) search.old.split search.old.least }
     ensures improves { Improves search.old search.new }
     ensures searching { IsSearching ground.now search.new }
-    ensures started { IsLeft (wave_of ground.now).tree (Has ends.now.barred) rack end.node
+    ensures started { IsLeft (wave_of ground.now).tree (IsIn ends.now.barred) rack end.node
         → IsStartedAt ground.now search.new end }
 {
     if is_left(ground.problem.tree(), ends, rack, end.node) {
@@ -487,10 +471,8 @@ fn run(ground: &Ground<'_>, search: &mut Search)
     ensures few { search.new.looked + 1 < 2 ^ 64 }
 {
     let _most = ground.nodes.len();
-    let mut last = 0;
-    while let Some(node) = nearest(ground, search, last) {
+    while let Some(node) = nearest(ground, search) {
         look_from(ground, search, node);
-        last = search.far_of(node);
     }
 }
 
@@ -512,38 +494,48 @@ fn settle_goal(ground: &Ground<'_>, search: &mut Search)
     }
 }
 
-// The nearest node that was not looked from and is nearer than the bound. None is nearer than the last.
-fn nearest(ground: &Ground<'_>, search: &Search, last: u64) -> Option<TreeNode>
+// The nearest node that was not looked from and is nearer than the bound. Of such nodes it is the first in the
+// row. The search looks through the block with the lowest floor, which then rises to the block's nearest node,
+// until no other block can have a nearer one.
+fn nearest(ground: &Ground<'_>, search: &mut Search) -> Option<TreeNode>
     requires ground { IsGround ground.now }
-    requires searching { IsSearching ground.now search.now }
-    requires last { (v : TreeNode) → order_at search.now v ≡ 0 → last ≤ far_at search.now v }
-    ensures { MatchOption result
-        ((v : TreeNode) → order_at search.now v ≡ 0 → search.now.bound ≤ far_at search.now v)
-        (λ node. IsNearest ground.now search.now node) }
+    requires searching { IsSearching ground.now search.old }
+    ensures rest { AreFloorsNew search.old search.new }
+    ensures searching { IsSearching ground.now search.new }
+    ensures node { MatchOption result
+        ((v : TreeNode) → order_at search.new v ≡ 0 → search.new.bound ≤ far_at search.new v)
+        (λ node. IsNearest ground.now search.new node) }
 {
-    let best = nearest_place(ground, search, last);
-    if best.place == search.reached.count {
-        return None;
+    while let Some(low) = search.reached.lowest_block(search.bound) {
+        let best = nearest_in(ground, search, low.block);
+        search.reached.raise(low.block, best.far);
+        if best.far <= low.floor || best.far < low.next {
+            return Some(search.reached.at(best.place));
+        }
     }
-    Some(search.reached.at(best.place))
+    None
 }
 
-// The same by its place. One as near as the last is the nearest at once.
-fn nearest_place(ground: &Ground<'_>, search: &Search, last: u64) -> Candidate
+// The place of a block's nearest node that was not looked from, if it is nearer than the bound. A node as near
+// as the floor is the nearest at once.
+fn nearest_in(ground: &Ground<'_>, search: &Search, block: usize) -> Candidate
     requires ground { IsGround ground.now }
     requires searching { IsSearching ground.now search.now }
-    requires last { (v : TreeNode) → order_at search.now v ≡ 0 → last ≤ far_at search.now v }
+    requires block { block * 32 < search.now.reached.count }
     ensures fresh { IsCandidate search.now result }
-    ensures least { (v : TreeNode) → order_at search.now v ≡ 0 → result.far ≤ far_at search.now v }
+    ensures least { (v : TreeNode) → far_at search.now v < 2 ^ 54 → order_at search.now v ≡ 0
+        → place_at search.now v / 32 ≡ block → result.far ≤ far_at search.now v }
 {
     let _ = ground;
+    let floor = search.reached.floors[block];
+    let first = block * BLOCK;
     let mut best = Candidate {
         place: search.reached.count,
         far: search.bound,
     };
-    for k in 0..search.reached.count {
+    for k in first..search.reached.count.min(first + BLOCK) {
         best = nearer(search, best, k);
-        if best.far <= last {
+        if best.far <= floor {
             return best;
         }
     }

@@ -1,26 +1,26 @@
 //! The ends of each split.
-ghost use Rattle.std.specs.Prelude.{◌≡◌, ◌*◌, ◌<◌, ◌≤◌, ◌⊎◌, ◌↔◌, ℕ, [], true, false, length, cond, All, Contains};
+ghost use Rattle.std.specs.Prelude.{◌≡◌, ◌*◌, ◌<◌, ◌≤◌, ◌⊎◌, ◌↔◌, ℕ, [], true, false, length, cond, All};
 ghost use Rattle.std.specs.Prelude.{IfOk, OnOk, IfSome, IsTrue, None, ◌++◌, ◌∷◌, slice_set};
-ghost use Rattle.rack_tree.specs.declared.TheConstants.{MAX_WORKERS};
+ghost use Rattle.std.specs.List.Sorted.{IsNonDecreasing};
 ghost use Rattle.rack_tree.specs.Tree.{reach};
 ghost use Rattle.wave_problem.specs.Wave.{split_at};
 ghost use Rattle.tree_flow.specs.declared.nodes.End.{End};
 ghost use Rattle.tree_flow.specs.declared.nodes.TreeNode.{TreeNode};
 ghost use Rattle.tree_flow.specs.declared.nodes.TreeNode.TheVariants.{Worker};
-ghost use Rattle.tree_planner.specs.Bars.{bar_at, bar_below, holder_at, AreBars, AreMet, IsLevelEnd};
+ghost use Rattle.tree_planner.specs.Bars.{bar_at, holder_at, AreBars, AreMet, IsLevelEnd};
+ghost use Rattle.node_ids.specs.Sets.{is_in_row};
 ghost use Rattle.tree_planner.specs.Bars.{top_of, IsLiveUnder, IsTopEnd};
-ghost use Rattle.node_ids.specs.Sets.{no_workers, Has};
 ghost use Rattle.tree_planner.specs.Bars.{HasEndFor};
-ghost use Rattle.tree_planner.specs.Ends.{ends_at, AreEnds, HasEnd, IsLeft};
+ghost use Rattle.tree_planner.specs.Ends.{ends_at, AreEnds, HasEnd, IsIn, IsLeft};
 ghost use Rattle.tree_planner.specs.Stored.{IsAdded};
-ghost use Rattle.tree_flow.specs.Nodes.{is_under, node_above, IsEnd, IsNode};
+ghost use Rattle.tree_flow.specs.Nodes.{is_under, node_above, HasBarUnder, IsEnd, IsNode};
 ghost use Rattle.tree_planner.specs.Hanging.{AreChildren};
 ghost use Rattle.tree_flow.specs.Table.{at_or, HasNode, IsOver, IsSized};
 
 use crate::children::Children;
 use crate::tree_nodes::{is_same, node_above};
-use node_ids::{SplitNo, WorkerNo, WorkerSet};
-use rack_tree::{MAX_WORKERS, RackTree};
+use node_ids::{SplitNo, WorkerNo};
+use rack_tree::RackTree;
 use std::alloc::{AllocError, Global};
 use std::marker::Model;
 use tree_flow::{End, NodeTable, TreeNode};
@@ -39,32 +39,28 @@ pub enum Group {
 #[derive(Drop)]
 pub struct Ends<'a> {
     groups: &'a [Group],
-    barred: WorkerSet,
-    list: &'a [u16],
+    barred: &'a [WorkerNo],
 }
 
 impl<'a> Model for Ends<'a> {
-    ghost use Rattle.std.specs.Prelude.{ℕ, ◌<◌, Contains};
-    ghost use Rattle.node_ids.specs.Sets.{Has};
-    ghost use Rattle.rack_tree.specs.declared.TheConstants.{MAX_WORKERS};
+    ghost use Rattle.std.specs.List.Sorted.{IsNonDecreasing};
     ghost use Rattle.tree_planner.specs.Ends.{Grouped};
 
     ghost Value = { Grouped };
 
-    ghost view = { λ e. record { groups = e.groups.now; barred = e.barred } };
+    ghost view = { λ e. record { groups = e.groups.now; barred = e.barred.now } };
 
-    ghost invariant = { λ e. (w : ℕ) → w < MAX_WORKERS → Has e.barred w → Contains e.list.now w };
+    ghost invariant = { λ e. IsNonDecreasing e.barred.now };
 }
 
 impl<'a> Ends<'a> {
     // Ends that leave no worker out.
     fn unbarred(groups: &'a [Group]) -> Ends<'a>
-        ensures { result ≡ record { groups = groups.now; barred = no_workers } }
+        ensures { result ≡ record { groups = groups.now; barred = [] } }
     {
         Ends {
             groups,
-            barred: WorkerSet::new(),
-            list: &[],
+            barred: &[],
         }
     }
 
@@ -76,51 +72,46 @@ impl<'a> Ends<'a> {
     }
 
     /// Whether the groups leave a worker out.
-    pub fn is_barred(&self, worker: u16) -> bool
-        requires { worker < MAX_WORKERS }
-        ensures { IsTrue result ↔ Has self.now.barred worker }
+    pub fn is_barred(&self, worker: WorkerNo) -> bool
+        ensures { result ≡ is_in_row self.now.barred worker }
     {
-        self.barred.has(WorkerNo::new(worker))
+        self.barred.binary_search(&worker).is_ok()
     }
 
-    /// The workers that the groups leave out.
-    pub fn barred(&self) -> &'a [u16]
-        ensures { (w : ℕ) → w < MAX_WORKERS → Has self.now.barred w → Contains result.now w }
+    /// The workers that the groups leave out, rising.
+    pub fn barred(&self) -> &'a [WorkerNo]
+        ensures { result.now ≡ self.now.barred }
     {
-        self.list
+        self.barred
     }
 }
 
-/// The ends of a split that keeps them itself, with the set of its barred workers and a list of them.
+/// The ends of a split that keeps them itself, with its barred workers, rising.
 #[derive(Drop)]
 pub struct OwnEnds {
     groups: Vec<Group>,
-    barred: WorkerSet,
-    list: Vec<u16>,
+    barred: Vec<WorkerNo>,
 }
 
 impl Model for OwnEnds {
-    ghost use Rattle.std.specs.Prelude.{ℕ, ◌<◌, Contains};
-    ghost use Rattle.node_ids.specs.Sets.{Has};
-    ghost use Rattle.rack_tree.specs.declared.TheConstants.{MAX_WORKERS};
+    ghost use Rattle.std.specs.List.Sorted.{IsNonDecreasing};
     ghost use Rattle.tree_planner.specs.Ends.{Grouped};
 
     ghost Value = { Grouped };
 
-    ghost view = { λ e. record { groups = e.groups.items; barred = e.barred } };
+    ghost view = { λ e. record { groups = e.groups.items; barred = e.barred.items } };
 
-    ghost invariant = { λ e. (w : ℕ) → w < MAX_WORKERS → Has e.barred w → Contains e.list.items w };
+    ghost invariant = { λ e. IsNonDecreasing e.barred.items };
 }
 
 impl OwnEnds {
     /// No ends.
     pub fn none(alloc: Global) -> OwnEnds
-        ensures { result ≡ record { groups = []; barred = no_workers } }
+        ensures { result ≡ record { groups = []; barred = [] } }
     {
         OwnEnds {
             groups: Vec::new(alloc),
-            barred: WorkerSet::new(),
-            list: Vec::new(alloc),
+            barred: Vec::new(alloc),
         }
     }
 
@@ -135,15 +126,9 @@ impl OwnEnds {
         requires split { split < length problem.now.splits }
         ensures { IfOk result (λ ends. (e : End) → HasEnd problem.now.tree ends e ↔ IsEnd problem.now split e) }
     {
-        let _tree = problem.tree();
         let groups = groups_of(alloc, problem, children, split)?;
-        let barred = problem.bars(split);
-        let list = members(alloc, &barred)?;
-        Ok(OwnEnds {
-            groups,
-            barred,
-            list,
-        })
+        let barred = copied(alloc, problem.bars(split))?;
+        Ok(OwnEnds { groups, barred })
     }
 
     fn lent(&self) -> Ends<'_>
@@ -151,10 +136,18 @@ impl OwnEnds {
     {
         Ends {
             groups: &self.groups,
-            barred: self.barred,
-            list: &self.list,
+            barred: &self.barred,
         }
     }
+}
+
+// The same workers.
+fn copied(alloc: Global, workers: &[WorkerNo]) -> Result<Vec<WorkerNo>, AllocError>
+    ensures { IfOk result (λ copy. copy.items ≡ workers.now) }
+{
+    let mut copy = Vec::with_capacity(alloc, workers.len())?;
+    copy.extend_from_slice(workers)?;
+    Ok(copy)
 }
 
 /// Where the ends of a split are.
@@ -200,7 +193,7 @@ impl AllEnds {
     // The next split has these groups, and no barred worker.
     fn share(&mut self, groups: &[Group]) -> Result<(), AllocError>
         ensures { OnOk result (self.new
-            ≡ self.old ++ record { groups = groups.now; barred = no_workers } ∷ []) }
+            ≡ self.old ++ record { groups = groups.now; barred = [] } ∷ []) }
     {
         let from = self.shared.len();
         self.shared.extend_from_slice(groups)?;
@@ -236,31 +229,15 @@ impl AllEnds {
     }
 }
 
-// The members of a set.
-fn members(alloc: Global, set: &WorkerSet) -> Result<Vec<u16>, AllocError>
-    ensures { IfOk result (λ list. (w : ℕ) → w < MAX_WORKERS → Has set.now w → Contains list.items w) }
-{
-    let mut list = Vec::new(alloc);
-    if set.is_empty() {
-        return Ok(list);
-    }
-    for w in 0..MAX_WORKERS {
-        if set.has(WorkerNo::new(w as u16)) {
-            list.push(w as u16)?;
-        }
-    }
-    Ok(list)
-}
-
 /// Whether a node is a worker of the rack that the groups do not leave out.
 pub fn is_left(tree: &RackTree, ends: &Ends<'_>, rack: u16, node: TreeNode) -> bool
     requires { IsNode tree.now node }
-    ensures { IsTrue result ↔ IsLeft tree.now (Has ends.now.barred) rack node }
+    ensures { IsTrue result ↔ IsLeft tree.now (IsIn ends.now.barred) rack node }
 {
-    tree.limits();
     match node {
         TreeNode::Worker(worker) => {
-            tree.rack_of(WorkerNo::new(worker)).index() == rack as usize && !ends.is_barred(worker)
+            let worker = WorkerNo::new(worker);
+            tree.rack_of(worker).index() == rack as usize && !ends.is_barred(worker)
         }
         _ => false,
     }
@@ -297,7 +274,6 @@ fn add_ends(
     requires split { split < length problem.now.splits }
     ensures { OnOk result (IsAdded problem.now split all.old all.new) }
 {
-    let _tree = problem.tree();
     if !problem.bars(split).is_empty() {
         let ends = OwnEnds::of(alloc, problem, children, split)?;
         return all.add(ends);
@@ -598,7 +574,6 @@ fn barred_nodes(
     requires { split < length problem.now.splits }
     ensures { IfOk result (λ bars. AreBars problem.now split bars) }
 {
-    problem.limits();
     if problem.bars(split).is_empty() {
         return Ok(None);
     }
@@ -613,19 +588,20 @@ fn table_of_bars(
 ) -> Result<NodeTable<bool>, AllocError>
     requires { split < length problem.now.splits }
     ensures over { IfOk result (λ bars. IsOver problem.now.tree bars) }
-    ensures bars { IfOk result (λ bars. (v : TreeNode) → at_or bars false v
-        ≡ bar_below problem.now split v (length problem.now.workers)) }
+    ensures bars { IfOk result (λ bars. (v : TreeNode)
+        → (at_or bars false v ≡ true) ↔ HasBarUnder problem.now split v) }
 {
     let mut bars = NodeTable::new(alloc, problem.tree(), false)?;
-    for w in 0..problem.workers() {
-        let worker = WorkerNo::new(w as u16);
-        if problem.is_barred(split, worker) {
-            bar_above(problem.tree(), &mut bars, worker);
+    let workers = problem.bars(split);
+    for worker in workers {
+        if worker.index() < problem.workers() {
+            bar_above(problem.tree(), &mut bars, *worker);
         }
     }
     Ok(bars)
 }
 
+// Marks the nodes above a worker.
 fn bar_above(tree: &RackTree, bars: &mut NodeTable<bool>, worker: WorkerNo)
     requires worker { worker < length tree.now.rack_of }
     requires over { IsOver tree.now bars.old }

@@ -1,32 +1,39 @@
 -- The set of barred pairs, one pair after another.
-use Rattle.std.proofs.Common.{ℕ, List, [], ◌∷◌, ◌≡◌, ◌*◌, ◌<◌, ◌∙◌, arith, inl, inr, length}
-use Rattle.std.specs.Prelude.{All, fold, ◌↔◌, ◌⊎◌}
-use Rattle.std.proofs.lemmas.List.{length-replicate, length-set}
+use Rattle.std.proofs.Common.{ℕ, List, [], ◌∷◌, ◌≡◌, arith, inl, inr, length}
+use Rattle.std.specs.Prelude.{All, fold, slice_index_or, ◌↔◌, ◌⊎◌}
+use Rattle.std.proofs.lemmas.Bool.{cases_lt, false≢true}
+use Rattle.std.proofs.lemmas.List.{get_or-replicate, get_or_past, length-replicate}
 use Rattle.std.proofs.lemmas.List.Elements.{All-head, All-tail}
 use Rattle.std.proofs.lemmas.List.Elements.{Contains-append_right}
-use Rattle.node_ids.specs.Sets.{HasPair, no_pairs, place_of_pair, with_pair}
-use Rattle.node_ids.proofs.Bits.{has-replicate, has-set}
+use Rattle.node_ids.specs.Sets.{HasPair, no_pairs, with_pair, with_worker}
+use Rattle.node_ids.proofs.Rows.{pairs-with_pair}
+use Rattle.node_ids.proofs.Updating.{length-updated}
 use Rattle.wave_arrays.specs.declared.array_rows.PairRow.{PairRow}
 use Rattle.wave_arrays.specs.Rows.{IsListed, IsPairKnown, TheBarredAreThoseListed}
 
 -- the set with these pairs in it too
-abbrev with_all : List ℕ → List PairRow → List ℕ
+abbrev with_all : List (List ℕ) → List PairRow → List (List ℕ)
 with_all set pairs = fold (λ set pair. with_pair set pair.split pair.worker) set pairs
 
--- one pair more
-has_one_more : (splits : ℕ) (set : List ℕ) (pair : PairRow) (s w : ℕ) → length set ≡ 4 * splits
-    → IsPairKnown splits 256 pair → w < 256 → HasPair (with_pair set pair.split pair.worker) s w
-    ↔ (((s ≡ pair.split) × (w ≡ pair.worker)) ⊎ HasPair set s w)
-has_one_more splits set pair s w size known lt = grind (arith, has-set)
+-- no pair is in the set of none
+no_pair : (splits s w : ℕ) → HasPair (no_pairs splits) s w → ⊥
+no_pair splits s w has =
+    let row : slice_index_or (no_pairs splits) s [] ≡ [] = elim (cases_lt s splits) [
+      | inl lt ↦ get_or-replicate splits s [] [] lt
+      | inr past ↦ get_or_past (no_pairs splits) s [] (omega (arith, past, length-replicate {A = List ℕ} splits []))
+    ] in
+    false≢true (rw row at has)
 
-has_all : (splits : ℕ) (set : List ℕ) (pairs : List PairRow) (s w : ℕ) → length set ≡ 4 * splits
-    → All (IsPairKnown splits 256) pairs → w < 256 → HasPair (with_all set pairs) s w
-    ↔ (IsListed pairs s w ⊎ HasPair set s w)
-has_all splits set [] s w size known lt = grind arith
-has_all splits set (pair ∷ rest) s w size known lt =
-    let one = has_one_more splits set pair s w size (All-head (IsPairKnown splits 256) pair rest known) lt in
-    let all = has_all splits (with_pair set pair.split pair.worker) rest s w (length-set _ _ _ ∙ size)
-    (All-tail (IsPairKnown splits 256) pair rest known) lt in (
+has_all : (workers : ℕ) (set : List (List ℕ)) (pairs : List PairRow) (s w : ℕ)
+    → All (IsPairKnown (length set) workers) pairs
+    → HasPair (with_all set pairs) s w ↔ (IsListed pairs s w ⊎ HasPair set s w)
+has_all workers set [] s w known = grind arith
+has_all workers set (pair ∷ rest) s w known =
+    let first = All-head (IsPairKnown (length set) workers) pair rest known in
+    let one = pairs-with_pair set pair.split pair.worker s w first.split in
+    let size = length-updated (with_worker pair.worker) set pair.split in
+    let all = has_all workers (with_pair set pair.split pair.worker) rest s w
+    (λ i d lt. rw size (All-tail (IsPairKnown (length set) workers) pair rest known i d lt)) in (
       λ new. elim (all.0 new) [
         | inl later ↦ inl (Contains-append_right (pair ∷ []) rest _ later)
         | inr had ↦ grind arith
@@ -38,12 +45,12 @@ has_all splits set (pair ∷ rest) s w size known lt =
     )
 
 pub barred_are_listed : TheBarredAreThoseListed
-barred_are_listed splits pairs known s w lt =
-    let size = length-replicate {A = ℕ} (4 * splits) 0 in
-    let all = has_all splits (no_pairs splits) pairs s w size known lt in (
+barred_are_listed splits workers pairs known s w =
+    let size = length-replicate {A = List ℕ} splits [] in
+    let all = has_all workers (no_pairs splits) pairs s w (λ i d lt. rw size (known i d lt)) in (
       λ barred. elim (all.0 barred) [
         | inl listed ↦ listed
-        | inr none ↦ absurd (has-replicate (4 * splits) (place_of_pair s w) none)
+        | inr none ↦ absurd (no_pair splits s w none)
       ],
       λ listed. all.1 (inl listed),
     )

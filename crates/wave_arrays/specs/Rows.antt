@@ -39,8 +39,9 @@ tree_in rows = record {
 abbrev pub IsListed : List PairRow → ℕ → ℕ → Type 0
 IsListed pairs s w = Contains pairs (record { split = s; worker = w })
 
--- the set of these pairs, in a table of so many splits; `the_barred_are_those_listed` says which they are
-abbrev pub barred_in : ℕ → List PairRow → List ℕ
+-- the set of these pairs, with a row for each of so many splits; `the_barred_are_those_listed` says which they
+-- are
+abbrev pub barred_in : ℕ → List PairRow → List (List ℕ)
 barred_in splits pairs = fold (λ set pair. with_pair set pair.split pair.worker) (no_pairs splits) pairs
 
 -- the wave that the rows make
@@ -100,5 +101,5 @@ pub record AreFit (rows : WaveRows) : Type 0 where
 
 -- of pairs of so many splits, one is barred just where it is listed
 abbrev pub TheBarredAreThoseListed : Type 0
-TheBarredAreThoseListed = (splits : ℕ) (pairs : List PairRow) → All (IsPairKnown splits MAX_WORKERS) pairs →
-    (s w : ℕ) → w < 256 → HasPair (barred_in splits pairs) s w ↔ IsListed pairs s w
+TheBarredAreThoseListed = (splits workers : ℕ) (pairs : List PairRow) → All (IsPairKnown splits workers) pairs
+    → (s w : ℕ) → HasPair (barred_in splits pairs) s w ↔ IsListed pairs s w

@@ -1,8 +1,7 @@
 //! The problem that rows make.
-ghost use Rattle.std.specs.Prelude.{◌≡◌, ◌<◌, ◌≤◌, length, map, All, IfOk};
-ghost use Rattle.node_ids.specs.Sets.{with_pair, HasRoomFor};
+ghost use Rattle.std.specs.Prelude.{◌≡◌, ◌<◌, length, map, All, IfOk, OnOk};
+ghost use Rattle.node_ids.specs.Sets.{with_pair};
 ghost use Rattle.rack_tree.specs.declared.TheConstants.{MAX_CENTRES, MAX_WORKERS};
-ghost use Rattle.wave_arrays.specs.declared.TheConstants.{MAX_SPLITS};
 ghost use Rattle.wave_arrays.specs.Rows.{AreFit, AreRacksFit, AreWorkersFit, IsPairKnown, IsSplitFit};
 ghost use Rattle.wave_arrays.specs.Rows.{TheBarredAreThoseListed, barred_in, split_of, tree_in, wave_in};
 ghost use Rattle.wave_arrays.specs.Rows.{worker_of};
@@ -38,7 +37,7 @@ fn build_tree(alloc: Global, rows: &WaveRows<'_>) -> Result<RackTree, AllocError
 {
     let centre_of = centres_of(alloc, rows.centre_of)?;
     let rack_of = racks_of(alloc, rows.workers)?;
-    Ok(RackTree::from_lists(alloc, rows.centres, &centre_of, rack_of))
+    Ok(RackTree::from_lists(rows.centres, centre_of, rack_of))
 }
 
 fn centres_of(alloc: Global, numbers: &[u16]) -> Result<Vec<CentreNo>, AllocError>
@@ -81,25 +80,23 @@ fn worker_line(row: &WorkerRow) -> WorkerLine
     }
 }
 
-// The set of these barred pairs, with room for the pairs of this number of splits.
+// The set of these barred pairs, of so many splits.
 fn build_barred(alloc: Global, splits: usize, pairs: &[PairRow]) -> Result<PairSet, AllocError>
-    requires few { splits ≤ MAX_SPLITS }
-    requires known { All (IsPairKnown splits MAX_WORKERS) pairs.now }
+    requires { All (IsPairKnown splits MAX_WORKERS) pairs.now }
     ensures { IfOk result (λ set. set ≡ barred_in splits pairs.now) }
 {
     let mut set = PairSet::new(alloc, splits)?;
     for pair in pairs {
-        bar(&mut set, *pair);
+        bar(&mut set, *pair)?;
     }
     Ok(set)
 }
 
-fn bar(set: &mut PairSet, pair: PairRow)
-    requires room { HasRoomFor set.old pair.split }
-    requires worker { pair.worker < MAX_WORKERS }
-    ensures { set.new ≡ with_pair set.old pair.split pair.worker }
+fn bar(set: &mut PairSet, pair: PairRow) -> Result<(), AllocError>
+    requires { pair.split < length set.old }
+    ensures { OnOk result (set.new ≡ with_pair set.old pair.split pair.worker) }
 {
-    set.put(SplitNo::new(pair.split as u32), WorkerNo::new(pair.worker));
+    set.put(SplitNo::new(pair.split as u32), WorkerNo::new(pair.worker))
 }
 
 fn numbered(alloc: Global, numbers: &[u16]) -> Result<Vec<WorkerNo>, AllocError>

@@ -1,5 +1,5 @@
 -- A plan with prices, as a caller sees it.
-use Rattle.std.specs.Prelude.{ℕ, ◌≡◌, ◌<◌, List, Option, length}
+use Rattle.std.specs.Prelude.{ℕ, ◌≡◌, ◌<◌, ◌⊎◌, List, Option, length}
 use Rattle.wave_problem.specs.Wave.{Wave}
 use Rattle.wave_problem.specs.Assignment.{Plan}
 use Rattle.price_certificate.specs.PriceList.{PriceList}
@@ -10,7 +10,7 @@ use Rattle.flow_network.specs.declared.kinds.NetworkKind.{NetworkKind}
 use Rattle.flow_network.specs.declared.kinds.NetworkKind.TheVariants.{Direct, Racks}
 use Rattle.network_prices.specs.Prices.{IsReadOff}
 use Rattle.direct_network.specs.Direct.{direct_nodes, IsDirect}
-use Rattle.direct_network.specs.declared.network.TheConstants.{MAX_SPLITS}
+use Rattle.direct_network.specs.declared.network.TheConstants.{MAX_SPLITS, MAX_WORKERS}
 use Rattle.rack_network.specs.Racks.{rack_nodes, IsRackNetwork}
 
 pub record Planned : Type 0 where
@@ -28,9 +28,10 @@ pub record WasCertified (planned : Planned) : Type 0 where
   pub wave : Wave
   pub plan_for : IsPlanFor wave planned
 
--- the problem has more splits than the direct network is built for, and that network is asked for
+-- the direct network is asked for, and the problem has more splits or more workers than it is built for
 abbrev pub IsPast : NetworkKind → Wave → Type 0
-IsPast kind wave = (kind ≡ Direct) × (MAX_SPLITS < length wave.splits)
+IsPast kind wave =
+    (kind ≡ Direct) × ((MAX_SPLITS < length wave.splits) ⊎ (MAX_WORKERS < length wave.workers))
 
 -- starts and prices that were read off a least-cost flow of the network of this kind
 abbrev pub IsMadeOver : NetworkKind → Wave → List (Option ℕ) → PriceList → Type 0

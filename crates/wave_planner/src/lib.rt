@@ -4,8 +4,8 @@
 //! `direct_network` by a least-cost flow, over that of `rack_network` by `tree_planner`, whose plan is read
 //! off a least-cost flow of it too (`engine_is_a_flow`). Both promise that the prices certify the plan, so no
 //! test is made. It always answers a best plan with prices that certify it, or that memory is wanting, or
-//! that the direct network was asked for and the problem has more splits than that is built for. Stands on
-//! these three and on `certificate_checker`.
+//! that the direct network was asked for and the problem has more splits or workers than that is built for.
+//! Stands on these three and on `certificate_checker`.
 //!
 //! # How the layer above uses it
 //! The program `plan_a_wave` plans a wave, and has its plan checked by its prices. The two contracts together
@@ -16,7 +16,7 @@
 //!     ensures { IfSome result (λ b. b ≡ true) }
 //! {
 //!     let planned = plan(alloc, problem).ok()?;
-//!     Some(certify(problem, planned.plan(), planned.prices()).is_ok())
+//!     Some(certify(alloc, problem, planned.plan(), planned.prices()).is_ok())
 //! }
 //! ```
 #![tactic(auto)]

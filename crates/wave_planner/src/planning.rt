@@ -188,8 +188,8 @@ pub enum PlanError {
     /// There is no memory for the network, the search, the plan or the prices.
     #[error("no memory")]
     Memory,
-    /// The problem has more splits than a direct network is built for.
-    #[error("too many splits for a direct network")]
+    /// The problem has more splits or more workers than a direct network is built for.
+    #[error("too many splits or workers for a direct network")]
     Size,
 }
 
@@ -243,7 +243,10 @@ fn is_too_large(problem: &Problem, kind: NetworkKind) -> bool
     ensures { IsTrue result ↔ IsPast kind problem.now }
 {
     match kind {
-        NetworkKind::Direct => problem.splits() > direct_network::MAX_SPLITS,
+        NetworkKind::Direct => {
+            problem.splits() > direct_network::MAX_SPLITS
+                || problem.workers() > direct_network::MAX_WORKERS
+        }
         NetworkKind::Racks => false,
     }
 }

@@ -1,17 +1,12 @@
--- What tables of the live holders of a split tell of the least distance.
+-- The least distance to one of a list of workers, by who stands in it, and in which racks and centres.
 use Rattle.std.proofs.Common.{◌≡◌, ℕ, ◌<◌, ◌≤◌, min, Bool, true, false, List, [], ◌∷◌, length, map}
-use Rattle.std.proofs.Common.{fold, Some, refl, ap, ◌∙◌, arith, get_or, ◌||◌}
-use Rattle.std.proofs.Common.{slice_index}
+use Rattle.std.proofs.Common.{fold, Some, refl, ap, ◌∙◌, arith, ◌||◌, slice_index}
 use Rattle.std.specs.Prelude.{◌==◌, if◌then◌else◌}
 use Rattle.std.specs.List.{list_any}
 use Rattle.std.proofs.Math.Nat.{zero-min, min-zero}
-use Rattle.node_ids.specs.Sets.{has_number}
 use Rattle.rack_tree.specs.Tree.{Tree, centre_at, distance}
-use Rattle.rack_tree.specs.declared.TheConstants.{MAX_CENTRES, MAX_RACKS}
 use Rattle.rack_tree.proofs.Distances.{steps_by}
-use Rattle.wave_problem.specs.SplitCosts.{Shows}
 use Rattle.wave_problem.specs.Sums.{least}
-use Rattle.wave_problem.specs.declared.split_costs.LiveHolders.{LiveHolders}
 
 -- the steps from a worker of the tree to the nearest of a list of others, or 6 where the list is empty
 abbrev pub steps_to : Tree → ℕ → List ℕ → ℕ
@@ -53,21 +48,3 @@ pub least_near : (tree : Tree) (w : ℕ) (live : List ℕ) → 0 < length live �
     least (map (λ h. distance tree h w) live) ≡ Some (steps_to tree w live)
 least_near tree w [] some = absurd (omega arith)
 least_near tree w (h ∷ live) some = grind (arith, fold_near, steps_to-cons)
-
--- which the three tables show
-pub steps_shown : (tree : Tree) (w rack centre : ℕ) (live : List ℕ) (one racks centres : Bool) →
-    slice_index tree.rack_of w ≡ rack → centre_at tree w ≡ centre →
-    one ≡ list_any (λ h. h == w) live → racks ≡ list_any (λ h. slice_index tree.rack_of h == rack) live →
-    centres ≡ list_any (λ h. centre_at tree h == centre) live →
-    steps_to tree w live ≡ steps_by one racks centres
-steps_shown tree w rack centre live one racks centres r c here near by = grind arith
-
--- so the tables tell the least distance from a worker by what they show of it, of its rack and of its centre
-pub least_shown : (tree : Tree) (w rack centre : ℕ) (live : List ℕ) (tables : LiveHolders)
-    (one racks centres : Bool) → 0 < length live → Shows tree live tables →
-    slice_index tree.rack_of w ≡ rack → centre_at tree w ≡ centre → rack < MAX_RACKS → centre < MAX_CENTRES →
-    has_number tables.workers w ≡ one → get_or tables.racks rack false ≡ racks →
-    get_or tables.centres centre false ≡ centres →
-    Some (steps_by one racks centres) ≡ least (map (λ h. distance tree h w) live)
-least_shown tree w rack centre live tables one racks centres some shown here there r c own near by =
-    grind (arith, least_near, steps_shown)

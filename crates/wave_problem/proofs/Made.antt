@@ -4,6 +4,7 @@ use Rattle.std.specs.List.{slice_index_or}
 use Rattle.std.proofs.lemmas.Bool.{cases_lt}
 use Rattle.std.proofs.lemmas.List.{get_or_default}
 use Rattle.rack_tree.specs.Tree.{Tree, IsWithinReach}
+use Rattle.rack_tree.specs.declared.TheConstants.{MAX_WORKERS}
 use Rattle.wave_problem.specs.declared.lines.WorkerLine.{WorkerLine}
 use Rattle.wave_problem.specs.Wave.{AreHeldWell, AreSmall, IsHeldWell, IsWithinLimits, Split, wave_from}
 
@@ -32,10 +33,10 @@ moved_small ws vs ss ts e f h = subst (λ v. AreSmall v ts) e (subst (AreSmall w
 pub moved_held : (n m : ℕ) (ss ts : List Split) → n ≡ m → ss ≡ ts → AreHeldWell n ss → AreHeldWell m ts
 moved_held n m ss ts e f h = subst (λ v. AreHeldWell v ts) e (subst (AreHeldWell n) f h)
 
-pub within : (tree : Tree) (workers : List WorkerLine) (splits entries : List Split) (barred : List ℕ)
-    → IsWithinReach tree → length workers ≡ length tree.rack_of → length tree.rack_of ≤ 256 → entries ≡ splits
-    → AreSmall workers splits → AreHeldWell (length workers) splits
-    → IsWithinLimits (wave_from tree workers entries barred)
+pub within : (tree : Tree) (workers : List WorkerLine) (splits entries : List Split)
+    (barred : List (List ℕ)) → IsWithinReach tree → length workers ≡ length tree.rack_of
+    → length tree.rack_of ≤ MAX_WORKERS → entries ≡ splits → AreSmall workers splits
+    → AreHeldWell (length workers) splits → IsWithinLimits (wave_from tree workers entries barred)
 within tree workers splits entries barred near one few same small held = rw same (record {
   near = near;
   few_splits = small.few_splits;

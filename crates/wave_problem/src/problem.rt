@@ -1,6 +1,8 @@
 ghost use Rattle.std.specs.Prelude.{◌≡◌, ◌≢◌, ℕ, List, [], ◌∷◌, ◌++◌, ◌+◌, ◌*◌, ◌<◌, ◌≤◌, ◌↔◌, length, map};
-ghost use Rattle.std.specs.Prelude.{slice_set, sum_by, All, AllPairs, IsTrue, OnOk, IfOk, IfSome, Err};
-ghost use Rattle.node_ids.specs.Sets.{Has, HasPair};
+ghost use Rattle.std.specs.Prelude.{slice_index_or, slice_set, sum_by, All, AllPairs};
+ghost use Rattle.std.specs.Prelude.{IsTrue, OnOk, IfOk, IfSome, Err};
+ghost use Rattle.std.specs.List.Sorted.{IsNonDecreasing};
+ghost use Rattle.node_ids.specs.Sets.{HasPair};
 ghost use Rattle.rack_tree.specs.Tree.{distance};
 ghost use Rattle.rack_tree.specs.declared.TheConstants.{MAX_DISTANCE, MAX_WORKERS};
 ghost use Rattle.wave_problem.specs.declared.TheConstants.{MAX_SPLITS, MAX_HOLDERS, MAX_SLOTS, MAX_BYTES};
@@ -11,7 +13,7 @@ ghost use Rattle.wave_problem.specs.Wave.{worker_at, worker_in, AreHeldWell, Are
 ghost use Rattle.wave_problem.specs.Wave.{IsWithinLimits};
 
 use crate::lines::{SplitLine, SplitRef, WorkerLine, are_held_well, are_small};
-use node_ids::{PairSet, SplitNo, WorkerNo, WorkerSet};
+use node_ids::{PairSet, SplitNo, WorkerNo};
 use rack_tree::RackTree;
 use smallvec::SmallVec;
 use std::alloc::{AllocError, Global};
@@ -260,10 +262,11 @@ impl Problem {
         self.barred.has(split, worker)
     }
 
-    /// The workers on which the split may not start.
-    pub fn bars(&self, split: SplitNo) -> WorkerSet
+    /// The workers on which the split may not start, rising.
+    pub fn bars(&self, split: SplitNo) -> &[WorkerNo]
         requires { split < length self.now.splits }
-        ensures { (w : ℕ) → w < MAX_WORKERS → Has result w ↔ HasPair self.now.barred split w }
+        ensures row { result.now ≡ slice_index_or self.now.barred split [] }
+        ensures rising { IsNonDecreasing result.now }
     {
         self.barred.row(split)
     }

@@ -17,16 +17,16 @@ pending_known wave s pending = grind (arith, get_or_past)
 live_known : (wave : Wave) (w : ℕ) → (worker_at wave w).live ≡ true → w < length wave.workers
 live_known wave w live = grind (arith, get_or_past)
 
--- the wave with this table of barred pairs
-abbrev barring : Wave → List ℕ → Wave
+-- the wave with this set of barred pairs
+abbrev barring : Wave → List (List ℕ) → Wave
 barring wave barred = wave_from wave.tree wave.workers wave.splits barred
 
--- the tables have the same pairs of the wave's splits and workers
-abbrev HaveSameBars : Wave → List ℕ → Type 0
+-- the sets have the same pairs of the wave's splits and workers
+abbrev HaveSameBars : Wave → List (List ℕ) → Type 0
 HaveSameBars wave barred = (s w : ℕ) → s < length wave.splits → w < length wave.workers
     → HasPair barred s w ↔ HasPair wave.barred s w
 
-holds_alike : (wave : Wave) (barred : List ℕ) (starts : List (Option ℕ)) (prices : PriceList)
+holds_alike : (wave : Wave) (barred : List (List ℕ)) (starts : List (Option ℕ)) (prices : PriceList)
     → HaveSameBars wave barred → Certifies (claim wave starts prices) → (d : Condition)
     → Holds (claim (barring wave barred) starts prices) d
 holds_alike wave barred starts prices same certifies (Allowed s w) = λ starts_there.

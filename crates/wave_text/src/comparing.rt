@@ -117,7 +117,7 @@ fn have_same_holders(wave: &Problem, other: &Problem, split: SplitNo) -> bool
 
 // Whether the same workers are barred from each split.
 fn are_same_bars(wave: &Problem, other: &Problem) -> bool
-    ensures { IsTrue result → (s w : ℕ) → s < length other.now.splits → w < MAX_WORKERS
+    ensures { IsTrue result → (s w : ℕ) → s < length other.now.splits
         → HasPair wave.now.barred s w ↔ HasPair other.now.barred s w }
 {
     if wave.splits() != other.splits() {

@@ -4,7 +4,7 @@ ghost use Rattle.wave_problem.specs.declared.TheConstants.{MAX_SPLITS};
 
 use line_rules::{KnownLines, Rows, Version};
 use line_shapes::Keyword;
-use node_ids::{SplitNo, WorkerNo, WorkerSet};
+use node_ids::{SplitNo, WorkerNo};
 use price_certificate::Prices;
 use std::alloc::AllocError;
 use wave_problem::{Plan, Problem};
@@ -165,28 +165,23 @@ fn add_bars(lines: &mut String, rows: &Rows<'_>, problem: &Problem) -> Result<()
     for number in 0..problem.splits() {
         let bars = problem.bars(SplitNo::new(number as u32));
         if !bars.is_empty() {
-            add_bars_of(lines, rows, number, &bars, problem.workers())?;
+            add_bars_of(lines, rows, number, bars)?;
         }
     }
     Ok(())
 }
 
-// A line for each worker, of so many, that is barred from the split.
+// A line for each worker that is barred from the split.
 fn add_bars_of(
     lines: &mut String,
     rows: &Rows<'_>,
     split: usize,
-    bars: &WorkerSet,
-    workers: usize,
-) -> Result<(), AllocError>
-    requires { workers ≤ MAX_WORKERS }
-{
+    bars: &[WorkerNo],
+) -> Result<(), AllocError> {
     let split = split_name(rows, split);
-    for number in 0..workers {
-        if bars.has(WorkerNo::new(number as u16)) {
-            let name = worker_name(rows, number);
-            write!(lines, "barred {split} {name}\n")?;
-        }
+    for worker in bars {
+        let name = worker_name(rows, worker.index());
+        write!(lines, "barred {split} {name}\n")?;
     }
     Ok(())
 }

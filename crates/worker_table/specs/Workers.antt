@@ -2,14 +2,14 @@
 use Rattle.std.specs.Prelude.{ℕ, ◌+◌, ◌-◌, ◌≤◌, ◌&&◌, ◌==◌, Bool, true, false, nat_lt, min, if◌then◌else◌}
 use Rattle.std.specs.Prelude.{List, All, length, map, slice_index, slice_index_or}
 use Rattle.std.specs.List.{enumerate_from}
-use Rattle.node_ids.specs.Sets.{has_number, place_of_pair, no_pairs, with_pair}
+use Rattle.node_ids.specs.Sets.{has_mark, no_marks, with_mark}
 use Rattle.node_ids.specs.Updates.{updated}
 use Rattle.worker_table.specs.declared.Worker.{Worker}
 
 pub record Workers : Type 0 where
   pub limit : ℕ  -- the silence at which a worker is dead
   pub each : List Worker
-  pub barred : List ℕ  -- a set of pairs of a split and a worker
+  pub barred : List ℕ  -- the table of the barred pairs of a split and a worker
 
 -- a live worker that nothing was heard of, with all its slots free
 abbrev pub fresh : ℕ → Worker
@@ -17,7 +17,7 @@ fresh slots = record { live = true; slots = slots; taken = 0; beat = 0; silence 
 
 -- all workers live, nothing barred
 abbrev pub opening_workers : List ℕ → ℕ → Workers
-opening_workers slots limit = record { limit = limit; each = map fresh slots; barred = no_pairs 1024 }
+opening_workers slots limit = record { limit = limit; each = map fresh slots; barred = no_marks 1024 }
 
 -- the worker w; one past the last is dead and has no slots
 abbrev pub worker_at : Workers → ℕ → Worker
@@ -36,7 +36,7 @@ abbrev pub has_free_slot : Worker → Bool
 has_free_slot worker = worker.live && nat_lt worker.taken worker.slots
 
 abbrev pub is_barred : Workers → ℕ → ℕ → Bool
-is_barred t split w = has_number t.barred (place_of_pair split w)
+is_barred t split w = has_mark t.barred split w
 
 -- what each worker of a table keeps
 pub record IsWithin (limit : ℕ) (worker : Worker) : Type 0 where
@@ -69,7 +69,7 @@ abbrev pub with_return : Workers → ℕ → Workers
 with_return t w = with_worker (λ worker. record worker { live = true; silence = 0 }) t w
 
 abbrev pub with_bar : Workers → ℕ → ℕ → Workers
-with_bar t split w = record t { barred = with_pair t.barred split w }
+with_bar t split w = record t { barred = with_mark t.barred split w }
 
 -- a worker after a sweep that read this count of its beats; a dead one is passed over
 abbrev pub heard : ℕ → Worker → ℕ → Worker

@@ -16,7 +16,7 @@ ghost use Rattle.worker_table.specs.Workers.{swept, taken_slots, with_bar, with_
 ghost use Rattle.worker_table.specs.Workers.{with_slot_given, with_slot_taken, worker_at, Workers};
 ghost use Rattle.worker_table.specs.View.{table_of};
 
-use node_ids::{PairSet, SplitNo, WorkerNo, WorkerSet};
+use node_ids::{PairTable, SplitNo, WorkerNo, WorkerSet};
 use std::alloc::{AllocError, Global};
 use std::marker::Model;
 
@@ -36,7 +36,7 @@ pub struct Worker {
 pub struct WorkerTable {
     limit: u32,
     workers: Vec<Worker>,
-    bars: PairSet,
+    bars: PairTable,
 }
 
 impl Model for WorkerTable {
@@ -60,7 +60,7 @@ impl WorkerTable {
         Ok(WorkerTable {
             limit: silence,
             workers: fresh_workers(alloc, slots, silence)?,
-            bars: PairSet::new(alloc, 1024)?,
+            bars: PairTable::new(alloc, 1024)?,
         })
     }
 
@@ -117,7 +117,7 @@ impl WorkerTable {
     }
 
     /// All barred pairs.
-    pub fn bars(&self) -> &PairSet
+    pub fn bars(&self) -> &PairTable
         ensures { result.now ≡ self.now.barred }
     {
         &self.bars

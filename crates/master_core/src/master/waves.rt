@@ -40,7 +40,9 @@ impl Master {
         let workers = worker_lines(alloc, self.workers.workers())?;
         let splits = all_split_lines(alloc, self.cluster.splits(), &self.splits, &self.holders)?;
         let tree = self.cluster.tree().copy(alloc)?;
-        let barred = self.workers.bars().copy(alloc)?;
+        let worker_count = self.cluster.slots().len() as u16;
+        let split_count = self.cluster.splits().len();
+        let barred = self.workers.bars().rows(alloc, split_count, worker_count)?;
         Problem::within_limits(alloc, tree, workers, &splits, barred)
     }
 
@@ -215,7 +217,7 @@ impl Master {
         let Ok(problem) = self.problem(alloc) else {
             return Err(CommitError::Memory);
         };
-        match certify(&problem, plan, prices) {
+        match certify(alloc, &problem, plan, prices) {
             Ok(certified) => Ok(certified),
             Err(condition) => Err(CommitError::Stale(condition)),
         }

@@ -2,4 +2,4 @@ use Rattle.std.proofs.Common.{◌≡◌, length}
 use Rattle.plan_tests.proofs.clusters.pairs.Given as goal
 
 abbrev pub invariant-loop-s : goal.invariant-loop-s
-invariant-loop-s l = (length l.barred ≡ 4096)
+invariant-loop-s l = (length l.barred ≡ 1024)

@@ -34,7 +34,7 @@ returns c =
     let wave = c.args.problem.now in
     let u : ℕ = node wave (suc c.args.level) c.args.number in
     let high = (level_in wave c.args.level).1 in
-    let few = few_columns wave c.requires.tree in
+    let few = few_columns wave c.requires.small in
     let end : c.loop-i.i ≡ count wave c.args.level = omega arith in
     row_close (downs wave c.args.level c.args.number c.requires.number) (u + 1) _ _ c.loop-i.network refl
     (omega arith)

@@ -2,6 +2,7 @@ use Rattle.std.proofs.Common.{ℕ, ◌≡◌, ◌+◌, subst, arith}
 use Rattle.network_prices.proofs.Rows.{row_begin}
 use Rattle.rack_network.specs.Racks.{start, unstarted_node, HasBars}
 use Rattle.rack_network.specs.Build.{IsBuilt}
+use Rattle.rack_network.proofs.Heights.{few_columns}
 use Rattle.rack_network.proofs.Rows.{inside, reaches, wait_step}
 use Rattle.std.proofs.lemmas.Bool.{false≢true}
 use Rattle.std.proofs.Common.{sym, ◌∙◌}
@@ -27,5 +28,6 @@ returns c =
       | then-has_bars+in_ok-add_pairs w ↦ rw w.network-is w.in_ok-add_pairs.ensures
       | else-has_bars+in_ok-add_reaches w ↦ rw w.network-is w.in_ok-add_reaches.ensures
     ] in
-    wait_step wave c.args.split c.if-has_bars.network c.add.new.network c.requires.tree c.requires.split
+    let few = few_columns wave c.requires.small in
+    wait_step wave c.args.split _ _ c.if-has_bars.network c.add.new.network (omega arith) c.requires.split
     c.requires.pending ways c.in_ok-add.ensures

@@ -14,6 +14,7 @@ loop-i-preserved c =
           (subst (λ (s : ℕ). IsBuilt wave (s + 1) 0 w.add_split.new.network) same w.in_ok-add_split.ensures)
       | else-is_pending w ↦ rw w.network-is
           (subst (λ (s : ℕ). IsBuilt wave (s + 1) 0 c.loop-i.network) same
-          (idle_row wave split c.loop-i.network (omega arith) (sym c.is_pending.ensures ∙ w.if-is_pending.false)
+          (idle_row wave split _ _ c.loop-i.network (omega arith) (omega arith)
+          (sym c.is_pending.ensures ∙ w.if-is_pending.false)
           (subst (λ (s : ℕ). IsBuilt wave s 0 c.loop-i.network) (sym same) c.loop-i.invariant)))
     ]

@@ -12,7 +12,7 @@ commands_of-requires-clause-ready c =
     let is = c.in_ok-names.ensures in
     subst (λ (names : Names). All (IsWholeCommand names) c.args.lines.now)
     (λ i. record { workers = sym is.workers i; splits = sym is.splits i; documents = sym is.documents i })
-    c.requires
+    c.requires.ready
 
 pub setting_of-requires : goal.setting_of-requires
 setting_of-requires c =

@@ -1,6 +1,6 @@
 use Rattle.plan_text.proofs.Tidy.{tidy-read}
 use Rattle.script_text.proofs.OfHead.{few_workers, is_of_head, is_target}
-use Rattle.script_text.proofs.Read.{few_splits-read}
+use Rattle.script_text.proofs.Read.{fit_master-read}
 use Rattle.script_text.proofs.Ready.{ready-read}
 use Rattle.script_text.proofs.script_reader.read_for.Goals as goal
 
@@ -10,7 +10,7 @@ script_of-requires-clause-tidy c =
 
 pub script_of-requires-clause-few : goal.script_of-requires-clause-few
 script_of-requires-clause-few c =
-    few_splits-read c.args.purpose c.args.text.now c.in_ok-known.known c.requires c.in_ok-known.ensures.ok
+    fit_master-read c.args.purpose c.args.text.now c.in_ok-known.known c.requires c.in_ok-known.ensures.ok
 
 pub script_of-requires-clause-ready : goal.script_of-requires-clause-ready
 script_of-requires-clause-ready c =
@@ -25,10 +25,10 @@ returns-clause-ok c = record {
 }
 
 pub returns-clause-known : goal.returns-clause-known
-returns-clause-known c = is_of_head c.args.purpose c.args.text.now _ (returns-clause-ok c)
+returns-clause-known c = is_of_head c.args.purpose c.args.text.now _ c.requires (returns-clause-ok c)
 
 pub returns-clause-target : goal.returns-clause-target
-returns-clause-target c = is_target c.args.purpose c.args.text.now _ (returns-clause-ok c)
+returns-clause-target c = is_target c.args.purpose c.args.text.now _ c.requires (returns-clause-ok c)
 
 pub returns-clause-few : goal.returns-clause-few
-returns-clause-few c = few_workers c.args.purpose c.args.text.now _ (returns-clause-ok c)
+returns-clause-few c = few_workers c.args.purpose c.args.text.now _ c.requires (returns-clause-ok c)

@@ -1,8 +1,7 @@
 use Rattle.std.proofs.Common.{◌≡◌, refl, subst, sym}
-use Rattle.node_ids.specs.Sets.{Has}
 use Rattle.rack_tree.specs.Tree.{Tree}
 use Rattle.tree_flow.specs.declared.nodes.End.{End}
-use Rattle.tree_planner.specs.Ends.{IsLeft, IsOf}
+use Rattle.tree_planner.specs.Ends.{IsIn, IsLeft, IsOf}
 use Rattle.tree_planner.specs.SearchingBack.{wave_of, IsInto}
 use Rattle.tree_planner.proofs.Tops.{end_same}
 use Rattle.tree_planner.proofs.back.over_group.Goals as goal
@@ -11,12 +10,12 @@ pub over_at-requires-clause-is_end : goal.over_at-requires-clause-is_end
 over_at-requires-clause-is_end c =
     let tree = (wave_of c.args.hollow.now).tree in
     c.requires.group c.in-Single.end
-    (subst (λ g. IsOf tree (Has c.args.ends.now.barred) g c.in-Single.end) (sym c.in-Single.is) refl)
+    (subst (λ g. IsOf tree (IsIn c.args.ends.now.barred) g c.in-Single.end) (sym c.in-Single.is) refl)
 
 pub step_over-requires-clause-is_end : goal.step_over-requires-clause-is_end
 step_over-requires-clause-is_end c =
     let tree = (wave_of c.args.hollow.now).tree in
-    let Out = Has c.args.ends.now.barred in
+    let Out = IsIn c.args.ends.now.barred in
     let end : End = record { node = c.args.node; level = c.in-Workers.level } in
     c.requires.group end (subst (λ g. IsOf tree Out g end) (sym c.in-Workers.is) (
       subst (λ (t : Tree). IsLeft t Out c.in-Workers.rack c.args.node) c.tree.ensures.tree
@@ -28,7 +27,7 @@ pub returns-then-is_left-clause-over : goal.returns-then-is_left-clause-over
 returns-then-is_left-clause-over c = λ x of.
     (let h = c.args.hollow.now in
     let end : End = record { node = c.args.node; level = c.in-Workers.level } in
-    let o = subst (λ g. IsOf (wave_of h).tree (Has c.args.ends.now.barred) g x) c.in-Workers.is of in
+    let o = subst (λ g. IsOf (wave_of h).tree (IsIn c.args.ends.now.barred) g x) c.in-Workers.is of in
     let same : x.node ≡ c.args.node → IsInto h c.step_over.new.search c.args.node c.args.split x =
     (λ is. subst (λ x. IsInto h c.step_over.new.search c.args.node c.args.split x)
     (end_same end x (sym is) (sym o.1)) c.step_over.ensures.over) in

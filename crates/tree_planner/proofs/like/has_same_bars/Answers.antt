@@ -1,16 +1,16 @@
-use Rattle.std.proofs.Common.{◌≡◌, ℕ, List, eqb, sym, subst}
+use Rattle.std.proofs.Common.{◌≡◌, List, ℕ, eqb, sym, subst, ◌∙◌}
 use Rattle.std.proofs.lemmas.Bool.Decides.{Decides-eqb}
 use Rattle.std.proofs.lemmas.Slice.Eq.{slice_eq-Decides}
-use Rattle.node_ids.specs.Sets.{Has}
+use Rattle.tree_planner.specs.Ends.{IsIn}
 use Rattle.tree_planner.proofs.like.has_same_bars.Goals as goal
 
 pub returns : goal.returns
-returns c = λ same w l.
-    (let before = c.bars-before.result in
-    let after = c.bars-after.result in
-    let rows : before ≡ after = (slice_eq-Decides {E = eqb} Decides-eqb before after c.eq.result c.eq.ensures).0 same in (
-      λ has. (c.bars-before.ensures w l).0
-          (subst (λ (set : List ℕ). Has set w) (sym rows) ((c.bars-after.ensures w l).1 has)),
-      λ has. (c.bars-after.ensures w l).0
-          (subst (λ (set : List ℕ). Has set w) rows ((c.bars-before.ensures w l).1 has)),
+returns c = λ same w.
+    (let before = c.bars-before.result.now in
+    let after = c.bars-after.result.now in
+    let decides = slice_eq-Decides {E = eqb} Decides-eqb before after c.eq.result c.eq.ensures in
+    let alike : before ≡ after = decides.0 same in
+    let rows = sym c.bars-before.ensures.row ∙ alike ∙ c.bars-after.ensures.row in (
+      λ has. subst (λ (row : List ℕ). IsIn row w) (sym rows) has,
+      λ has. subst (λ (row : List ℕ). IsIn row w) rows has,
     ))

@@ -1,12 +1,11 @@
-use Rattle.std.proofs.Common.{ℕ, ◌+◌, ◌≤◌, ap, arith, get_or, length, subst, sym}
+use Rattle.std.proofs.Common.{ℕ, ◌+◌, ◌≤◌, ◌∙◌, ap, arith, get_or, length, subst, sym}
 use borrow.Author.Count.{below_more}
-use Rattle.node_ids.specs.Sets.{Has}
 use Rattle.wave_problem.specs.Wave.{reward}
 use Rattle.tree_flow.specs.declared.nodes.End.{End}
-use Rattle.tree_planner.specs.Ends.{HasEnd, IsOf}
+use Rattle.tree_planner.specs.Ends.{HasEnd, IsIn, IsOf}
 use Rattle.tree_flow.specs.State.{reach_cost}
 use Rattle.tree_planner.specs.Searching.{far_at, state_at, wave_of, IsOverTo}
-use Rattle.tree_planner.proofs.Improved.{improves_trans}
+use Rattle.tree_planner.proofs.Improved.{at_kept, improves_trans}
 use Rattle.tree_planner.proofs.Covered.{group_ends, leaving_kept}
 use Rattle.tree_planner.proofs.Grouped.{all_among, first}
 use Rattle.tree_planner.proofs.Looked.{stands_same}
@@ -22,6 +21,38 @@ over_group-requires-clause-group c =
     group_ends g c.requires.ground c.args.split c.loop-group.invariant.leaving.known c.ends_of-ends.result
     c.ends_of-ends.ensures c.groups-group-items.result.now c.groups-group-items.ensures c.loop-group.group-index
     c.loop-group-test.true
+
+pub loop-group-init : goal.loop-group-init
+loop-group-init c =
+    let g = c.args.ground.now in
+    let old = c.args.search.now in
+    let new = c.arrive.new.self in
+    let i = c.arrive.ensures.improves in
+    let at = c.requires.at in
+    let same = i.nearer.settled c.args.end.node at.settled in
+    let far = c.far_of-far.ensures in
+    let cost = c.cost_at-spent.ensures.cost in
+    let near = c.arrive.ensures.near in
+    let worth = c.requires.ground.worth in
+    record {
+      searching = c.arrive.ensures.kept g c.requires.searching (λ less. record {
+        from = c.args.end;
+        stands = c.requires.stands;
+        reached = at.reached;
+        settled = at.settled;
+        near = omega arith;
+      });
+      improves = i;
+      leaving = record {
+        known = c.requires.split;
+        at = at_kept old new i c.args.end.node at;
+        far = far ∙ sym same;
+        stands = c.requires.stands;
+        spent = cost;
+      };
+      out = omega arith;
+      over = λ k l. absurd (omega arith);
+    }
 
 pub loop-group-preserved : goal.loop-group-preserved
 loop-group-preserved c =
@@ -43,11 +74,11 @@ loop-group-preserved c =
         spent = c.cost_at-spent.result;
       }) leaving;
       out = (let before = c.loop-group.invariant.out in omega arith);
-      over = below_more (λ (k : ℕ). (x : End) → IsOf (wave_of g).tree (Has ends.barred)
+      over = below_more (λ (k : ℕ). (x : End) → IsOf (wave_of g).tree (IsIn ends.barred)
           (get_or ends.groups k first) x → IsOverTo g new c.args.end c.args.split x) c.loop-group.group-index
           (λ k l x of. (let before = c.loop-group.invariant.over k l x of in
           let far = i.nearer.far x.node in omega arith))
-          (subst (λ groups. (x : End) → IsOf (wave_of g).tree (Has ends.barred)
+          (subst (λ groups. (x : End) → IsOf (wave_of g).tree (IsIn ends.barred)
           (get_or groups c.loop-group.group-index first) x → IsOverTo g new c.args.end c.args.split x)
           c.groups-group-items.ensures c.over_group.ensures.over);
     }
@@ -62,7 +93,7 @@ returns-clause-over c =
       over = λ e x stands is is_end.
           (let same = stands_same (state_at g) c.args.split c.args.end e c.requires.stands stands in
           subst (λ e. IsOverTo g search e c.args.split x) same
-          (all_among (wave_of g).tree (Has ends.barred) ends.groups first
+          (all_among (wave_of g).tree (IsIn ends.barred) ends.groups first
           (λ x. IsOverTo g search c.args.end c.args.split x)
           (λ k l. c.loop-group.invariant.over k (omega arith)) x
           (subst (λ ends. HasEnd (wave_of g).tree ends x) (sym c.ends_of-ends.ensures)

@@ -1,8 +1,7 @@
 use Rattle.std.proofs.Common.{ℕ, arith, get_or}
 use borrow.Author.Count.{below_more}
-use Rattle.node_ids.specs.Sets.{Has}
 use Rattle.tree_flow.specs.declared.nodes.TreeNode.TheVariants.{Worker}
-use Rattle.tree_planner.specs.Ends.{IsLeft}
+use Rattle.tree_planner.specs.Ends.{IsIn, IsLeft}
 use Rattle.tree_planner.specs.Searching.{wave_of, IsOverTo}
 use Rattle.tree_planner.proofs.Covered.{leaving_kept, to_kept}
 use Rattle.tree_planner.proofs.Grouped.{all_left, of_workers}
@@ -21,7 +20,7 @@ loop-node-preserved c =
       searching = c.over_node.ensures.searching;
       improves = improves_trans c.args.search.now old new c.loop-node.invariant.improves i;
       leaving = leaving_kept g old new i c.args.leaving leaving;
-      over = below_more (λ (k : ℕ). IsLeft (wave_of g).tree (Has c.args.ends.now.barred) c.args.rack
+      over = below_more (λ (k : ℕ). IsLeft (wave_of g).tree (IsIn c.args.ends.now.barred) c.args.rack
           (get_or nodes k (Worker 0)) → IsOverTo g new c.args.leaving.end c.args.leaving.split
           (record { node = get_or nodes k (Worker 0); level = c.args.level })) c.loop-node.node-index
           (λ k l left. to_kept g old new i c.args.leaving leaving
@@ -33,7 +32,7 @@ pub returns-clause-over : goal.returns-clause-over
 returns-clause-over c =
     let g = c.args.ground.now in
     let tree = (wave_of g).tree in
-    let Out = Has c.args.ends.now.barred in
+    let Out = IsIn c.args.ends.now.barred in
     of_workers tree Out c.args.rack c.args.level
     (λ x. IsOverTo g c.loop-node.search c.args.leaving.end c.args.leaving.split x)
     (all_left tree Out c.args.rack c.workers_in-nodes.result.now c.workers_in-nodes.ensures.all

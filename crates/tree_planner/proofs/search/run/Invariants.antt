@@ -1,6 +1,6 @@
 use Rattle.std.proofs.Common.{◌≡◌, ◌+◌, ◌<◌, ◌≤◌, length}
 use Rattle.tree_flow.specs.declared.nodes.TreeNode.{TreeNode}
-use Rattle.tree_planner.specs.Searching.{far_at, order_at, HasLookedFrom, HasStarted, IsSearching}
+use Rattle.tree_planner.specs.Searching.{order_at, HasLookedFrom, HasStarted, IsSearching}
 use Rattle.tree_planner.proofs.Counted.{open_count}
 use Rattle.tree_planner.proofs.search.run.Given as goal
 
@@ -11,7 +11,6 @@ invariant-loop-node l = record {
   started : HasStarted l.ground l.search;
   looked : (u : TreeNode) → 0 < order_at l.search u → HasLookedFrom l.ground l.search u;
   few : l.search.looked + open_count l.search l.ground.nodes.now ≤ length l.ground.nodes.now;
-  last : (v : TreeNode) → order_at l.search v ≡ 0 → l.last ≤ far_at l.search v;
 }
 
 abbrev pub decreases-loop-node : goal.decreases-loop-node

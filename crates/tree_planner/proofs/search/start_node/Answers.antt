@@ -1,12 +1,11 @@
 use Rattle.std.proofs.Common.{subst}
 use Rattle.rack_tree.specs.Tree.{Tree}
-use Rattle.tree_planner.specs.Ends.{IsLeft}
-use Rattle.node_ids.specs.Sets.{Has}
+use Rattle.tree_planner.specs.Ends.{IsIn, IsLeft}
 use Rattle.tree_planner.proofs.Covered.{left_end}
 use Rattle.tree_planner.proofs.search.start_node.Goals as goal
 
 pub start_at-requires-clause-is_end : goal.start_at-requires-clause-is_end
 start_at-requires-clause-is_end c =
-    left_end c.args.ground.now c.args.search.now.split (Has c.args.ends.now.barred) c.args.rack c.args.end.level
-    c.requires.group c.args.end.node (subst (λ (t : Tree). IsLeft t (Has c.args.ends.now.barred) c.args.rack c.args.end.node)
+    left_end c.args.ground.now c.args.search.now.split (IsIn c.args.ends.now.barred) c.args.rack c.args.end.level
+    c.requires.group c.args.end.node (subst (λ (t : Tree). IsLeft t (IsIn c.args.ends.now.barred) c.args.rack c.args.end.node)
     c.tree.ensures.tree (c.is_left.ensures.0 c.if-is_left.true))

@@ -1,7 +1,9 @@
-use Rattle.std.proofs.Common.{◌++◌, ◌∷◌, [], ◌<◌, ◌∙◌, ℕ, ap, length, arith}
-use Rattle.node_ids.specs.Sets.{no_workers, Has, HasPair}
+use Rattle.std.proofs.Common.{◌++◌, ◌∷◌, [], ◌∙◌, ℕ, ap, length, arith, sym, subst}
+use Rattle.std.proofs.lemmas.Bool.{eqb-true, false≢true}
+use Rattle.node_ids.specs.Sets.{HasPair}
+use Rattle.tree_planner.proofs.Barred.{at_in_row}
 use Rattle.tree_planner.proofs.Grouped.{among_same}
-use Rattle.node_ids.proofs.Bits.{has-replicate}
+use Rattle.tree_planner.specs.Ends.{IsIn}
 use Rattle.tree_planner.proofs.split_ends.add_ends.Goals as goal
 
 pub returns : goal.returns
@@ -9,17 +11,20 @@ returns c =
     let wave = c.args.problem.now in
     let s = c.args.split in
     let groups = c.unbarred_groups.new.groups.items in
-    let unbarred : (w : ℕ) → w < length wave.tree.rack_of → HasPair wave.barred s w → ⊥ =
-    (λ w known pair. c.is_empty.ensures.none c.if-not-is_empty.false w ((c.bars.ensures w
-    (let most = c.tree-tree.ensures.most in let lines = c.tree-tree.ensures.lines in omega arith)).1 pair)) in
+    let unbarred : (w : ℕ) → HasPair wave.barred s w → ⊥ =
+    (λ w pair.
+    let there = at_in_row c.bars.result.now w (subst (λ row. IsIn row w) (sym c.bars.ensures.row) pair) in
+    let few = there.1 in
+    let none = eqb-true (length c.bars.result.now) 0 (sym c.is_empty.ensures ∙ c.if-not-is_empty.false) in
+    absurd (omega arith)) in
     record {
-      ends = record { groups = groups; barred = no_workers };
-      items = c.in_ok-share.ensures ∙ ap (λ xs. c.args.all.now ++ record { groups = xs; barred = no_workers } ∷ [])
+      ends = record { groups = groups; barred = [] };
+      items = c.in_ok-share.ensures ∙ ap (λ xs. c.args.all.now ++ record { groups = xs; barred = [] } ∷ [])
           c.deref.ensures.value;
       same = λ e. (
-        λ has. (c.in_ok-unbarred_groups.ensures e).0 (among_same wave.tree (Has no_workers) (HasPair wave.barred s)
-            (λ w known pair. absurd (unbarred w known pair)) groups e has),
-        λ is. among_same wave.tree (HasPair wave.barred s) (Has no_workers)
-            (λ w known out. absurd (has-replicate 4 w out)) groups e ((c.in_ok-unbarred_groups.ensures e).1 is),
+        λ has. (c.in_ok-unbarred_groups.ensures e).0 (among_same wave.tree (IsIn []) (HasPair wave.barred s)
+            (λ w known pair. absurd (unbarred w pair)) groups e has),
+        λ is. among_same wave.tree (HasPair wave.barred s) (IsIn [])
+            (λ w known out. absurd (false≢true out)) groups e ((c.in_ok-unbarred_groups.ensures e).1 is),
       );
     }

@@ -4,5 +4,5 @@ pub returns : goal.returns
 returns c = λ k. record {
   limit = c.args.silence;
   each = c.in_ok-fresh_workers.ensures.each k;
-  barred = c.in_ok-new.ensures.value k;
+  barred = c.in_ok-new.ensures k;
 }

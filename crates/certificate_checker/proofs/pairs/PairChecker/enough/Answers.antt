@@ -8,5 +8,5 @@ overflow_sub-held c =
       arith,
       c.self.invariant.reward,
       c.split_price.ensures,
-      c.self.invariant.split_prices (SplitPrice c.args.split) refl,
+      c.self.invariant.before.split_prices (SplitPrice c.args.split) refl,
     )

@@ -5,4 +5,5 @@ pub returns-then-is_priced_far : goal.returns-then-is_priced_far
 returns-then-is_priced_far c = λ near.
     let far = c.is_priced_far.ensures in
     let told = c.if-is_priced_far.true in
-    settled c.args.self.now c.args.split (far.anywhere told) (far.centres told) (c.is_priced_near.ensures near)
+    settled c.args.self.now c.args.split (far.anywhere told) (far.centres told)
+    (c.is_priced_near.ensures near)

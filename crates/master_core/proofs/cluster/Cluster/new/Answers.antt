@@ -21,7 +21,7 @@ invariant_of-result c =
     whole_from c.args.tree c.args.slots.now c.in-Ok.slots.items c.args.splits.items c.args.texts.items
     c.args.parts
     c.args.silence (c.in-Ok.ensures.items_if_clones_equal (λ _ _ e. e))
-    (subst (λ (t : Tree). tree.IsWithinLimits t) c.tree.view_is c.tree.invariant.within)
+    (subst (λ (t : Tree). tree.IsWithinLimits t) c.tree.view_is c.tree.invariant)
     c.requires.workers c.requires.texts c.requires.parts c.requires.silence
     (rw (c.deref.ensures.value, c.deref-2.ensures.value)
     at (c.are_few_and_small.ensures.0 c.if-not-are_few_and_small.false))

@@ -1,4 +1,4 @@
-use Rattle.std.proofs.Common.{◌≡◌, map, ap, ◌∙◌, length}
+use Rattle.std.proofs.Common.{◌≡◌, map, ap, sym, ◌∙◌, length}
 use Rattle.std.proofs.lemmas.Result.{IfOk-weaker}
 use Rattle.wave_problem.specs.Wave.{Wave}
 use Rattle.master_state.specs.Steps.{worker_line}
@@ -18,7 +18,8 @@ parts_are c = record {
     c.splits.ensures.value,
     c.deref.ensures.value,
   );
-  barred_are = c.in_ok-barred.ensures ∙ c.bars.ensures;
+  barred_are = rw (sym c.bars.ensures, sym c.splits-split_count.ensures.value, sym c.slots.ensures.value)
+      c.in_ok-barred.ensures;
 }
 
 pub within_limits-requires : goal.within_limits-requires

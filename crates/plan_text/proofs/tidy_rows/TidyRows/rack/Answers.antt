@@ -6,4 +6,4 @@ use Rattle.plan_text.proofs.tidy_rows.TidyRows.rack.Goals as goal
 pub overflow_cast-declared : goal.overflow_cast-declared
 overflow_cast-declared c =
     let tidy = c.are_tidy.ensures in
-    omega (arith, c.declared.ensures.within, few_names c.args.self.now tidy Rack 32 tidy.few_racks)
+    omega (arith, c.declared.ensures.within, few_names c.args.self.now tidy Rack 4096 tidy.few_racks)

@@ -6,4 +6,4 @@ use Rattle.plan_text.proofs.tidy_rows.TidyRows.worker.Goals as goal
 pub overflow_cast-declared : goal.overflow_cast-declared
 overflow_cast-declared c =
     let tidy = c.are_tidy.ensures in
-    omega (arith, c.declared.ensures.within, few_names c.args.self.now tidy Worker 256 tidy.few_workers)
+    omega (arith, c.declared.ensures.within, few_names c.args.self.now tidy Worker 32768 tidy.few_workers)

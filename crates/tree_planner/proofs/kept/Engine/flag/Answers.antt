@@ -1,6 +1,6 @@
-use Rattle.std.proofs.Common.{◌≡◌, ◌∙◌, false, true, sym, ap, subst, inl, inr}
+use Rattle.std.proofs.Common.{◌∙◌, true, sym, ap, subst, inl, inr}
 use Rattle.std.proofs.lemmas.Bool.{cases_Bool}
-use Rattle.wave_problem.specs.Wave.{split_at, Wave}
+use Rattle.wave_problem.specs.Wave.{Wave}
 use Rattle.tree_planner.specs.Going.{HasSameGround}
 use Rattle.tree_planner.proofs.Flagged.{flag_here, flag_other, ground_with_pending}
 use Rattle.tree_planner.proofs.kept.Engine.flag.Goals as goal

@@ -1,5 +1,5 @@
-use Rattle.std.proofs.Common.{◌∙◌, refl, arith}
-use Rattle.tree_planner.proofs.Gained.{line_with_free, live_with_free, own_line}
+use Rattle.std.proofs.Common.{refl}
+use Rattle.tree_planner.proofs.Gained.{own_line}
 use Rattle.tree_planner.proofs.kept.Engine.lose_down_to.Goals as goal
 
 pub loop-k-init : goal.loop-k-init

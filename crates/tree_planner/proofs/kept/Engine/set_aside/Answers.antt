@@ -1,4 +1,4 @@
-use Rattle.std.proofs.Common.{◌≡◌, ◌∙◌, false, sym, ap, subst}
+use Rattle.std.proofs.Common.{◌∙◌, false, sym, ap, subst}
 use Rattle.wave_problem.specs.Wave.{Wave}
 use Rattle.tree_planner.specs.Events.{with_pending}
 use Rattle.tree_planner.specs.Going.{HasSameGround}

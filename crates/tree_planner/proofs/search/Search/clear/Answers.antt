@@ -26,6 +26,7 @@ loop-k-preserved c =
         far = over_sized c.args.tree.now now.far far i.tables.far c.set.ensures.size;
         how = i.tables.how;
         order = over_sized c.args.tree.now now.order order i.tables.order c.set-in-loop-k.ensures.size;
+        places = i.tables.places;
         covers = i.tables.covers;
       };
       row = i.row;
@@ -38,4 +39,7 @@ pub returns : goal.returns
 returns c =
     let i = c.loop-k.invariant in
     all_forgotten c.args.tree.now c.args.self.now c.loop-k.self i.tables
-    (ap (λ (r : Reached). length r.nodes.items) i.row) c.loop-k.k (omega arith) i.forgotten
+    (ap (λ (r : Reached). length r.nodes.items) i.row)
+    (let blocks = c.requires.reached.blocks in
+    let same = ap (λ (r : Reached). length r.floors.items) i.row in
+    omega arith) c.loop-k.k (omega arith) i.forgotten

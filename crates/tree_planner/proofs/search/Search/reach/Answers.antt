@@ -1,5 +1,6 @@
-use Rattle.std.proofs.Common.{◌^◌, ◌<◌, arith, refl}
+use Rattle.std.proofs.Common.{◌≡◌, ◌^◌, ◌<◌, arith, refl, subst}
 use Rattle.tree_planner.specs.declared.search.Goal.TheVariants.{Slot}
+use Rattle.tree_planner.specs.Reaching.{IsNoted}
 use Rattle.tree_planner.specs.Searching.{far_at, wave_of}
 use Rattle.tree_planner.proofs.Added.{over_sized}
 use Rattle.tree_planner.proofs.Improved.{bottom_shut, bottom_there, ends_same, ends_there, reach_kept}
@@ -10,7 +11,7 @@ returns-then-free-clause-kept c = λ g ground s free known leads.
     (let old = c.args.self.now in
     let far = c.set.new.self in
     let how = c.set-then-distance-far.new.self in
-    let is = c.get-far.ensures (2 ^ 54) in
+    let is : c.get-far.result ≡ far_at old c.args.node = c.get-far.ensures (2 ^ 54) in
     let v = c.args.node in
     let d = c.args.distance in
     let st = c.args.step in
@@ -21,24 +22,25 @@ returns-then-free-clause-kept c = λ g ground s free known leads.
     let hh = c.set-then-distance-far.ensures.here in
     let ho = c.set-then-distance-far.ensures.others in
     let b = c.requires.beyond in
-    let n = c.note.ensures in
     let row = c.note.new.self in
-    let short : d < 2 ^ 54 = (let limit = s.limit in let small = ground.small in let most = s.bound in omega arith) in
-    reach_kept old far how v d st nearer near short d (Slot v) (omega arith) b h o hh ho row n.room (λ past. n.count (omega arith)) (λ past. n.node (omega arith))
-    (λ close. n.same (omega arith)) g ground known
+    let noted = subst (λ f. IsNoted old.reached row v f d) is c.note.ensures in
+    let short : d < 2 ^ 54 =
+    (let limit = s.limit in let small = ground.small in let most = s.bound in omega arith) in
+    reach_kept old far how v d st nearer near short d (Slot v) (omega arith) b h o hh ho row noted g ground
+    known
     (over_sized (wave_of g).tree old.far far s.tables.far c.set.ensures.size)
     (over_sized (wave_of g).tree old.how how s.tables.how c.set-then-distance-far.ensures.size) s leads
-    (ends_there old far how v d st nearer near short d (Slot v) (omega arith) b h o hh ho row n.room (λ past. n.count (omega arith)) (λ past. n.node (omega arith))
-    (λ close. n.same (omega arith)) g s known (free.0 c.if-free.true) refl)
-    (bottom_there old far how v d st nearer near short d (Slot v) (omega arith) b h o hh ho row n.room (λ past. n.count (omega arith)) (λ past. n.node (omega arith))
-    (λ close. n.same (omega arith)) g s refl))
+    (ends_there old far how v d st nearer near short d (Slot v) (omega arith) b h o hh ho row noted g s known
+    (free.0 c.if-free.true) refl)
+    (bottom_there old far how v d st nearer near short d (Slot v) (omega arith) b h o hh ho row noted g s
+    refl))
 
 pub returns-else-free-clause-kept : goal.returns-else-free-clause-kept
 returns-else-free-clause-kept c = λ g ground s free known leads.
     (let old = c.args.self.now in
     let far = c.set.new.self in
     let how = c.set-then-distance-far.new.self in
-    let is = c.get-far.ensures (2 ^ 54) in
+    let is : c.get-far.result ≡ far_at old c.args.node = c.get-far.ensures (2 ^ 54) in
     let v = c.args.node in
     let d = c.args.distance in
     let st = c.args.step in
@@ -49,15 +51,16 @@ returns-else-free-clause-kept c = λ g ground s free known leads.
     let hh = c.set-then-distance-far.ensures.here in
     let ho = c.set-then-distance-far.ensures.others in
     let b = c.requires.beyond in
-    let n = c.note.ensures in
     let row = c.note.new.self in
-    let short : d < 2 ^ 54 = (let limit = s.limit in let small = ground.small in let most = s.bound in omega arith) in
-    reach_kept old far how v d st nearer near short old.bound old.goal (omega arith) b h o hh ho row n.room (λ past. n.count (omega arith)) (λ past. n.node (omega arith))
-    (λ close. n.same (omega arith)) g ground known
+    let noted = subst (λ f. IsNoted old.reached row v f d) is c.note.ensures in
+    let short : d < 2 ^ 54 =
+    (let limit = s.limit in let small = ground.small in let most = s.bound in omega arith) in
+    reach_kept old far how v d st nearer near short old.bound old.goal (omega arith) b h o hh ho row noted g
+    ground known
     (over_sized (wave_of g).tree old.far far s.tables.far c.set.ensures.size)
     (over_sized (wave_of g).tree old.how how s.tables.how c.set-then-distance-far.ensures.size) s leads
-    (ends_same old far how v d st nearer near short old.bound old.goal (omega arith) b h o hh ho row n.room (λ past. n.count (omega arith)) (λ past. n.node (omega arith))
-    (λ close. n.same (omega arith)) g s refl refl)
-    (bottom_shut old far how v d st nearer near short old.bound old.goal (omega arith) b h o hh ho row n.room (λ past. n.count (omega arith)) (λ past. n.node (omega arith))
-    (λ close. n.same (omega arith)) g s refl
+    (ends_same old far how v d st nearer near short old.bound old.goal (omega arith) b h o hh ho row noted g s
+    refl refl)
+    (bottom_shut old far how v d st nearer near short old.bound old.goal (omega arith) b h o hh ho row noted g s
+    refl
     (λ some. (let t = free.1 some in let f = c.if-free.false in cc))))

@@ -1,5 +1,4 @@
 use Rattle.std.proofs.Common.{ap, ◌∙◌, ◌++◌, ◌∷◌, [], length, map}
-use Rattle.node_ids.specs.Sets.{no_workers}
 use Rattle.tree_planner.specs.declared.split_ends.Stored.TheVariants.{Shared}
 use Rattle.tree_planner.specs.Stored.{stored_at}
 use Rattle.tree_planner.proofs.Stored.{share_more}
@@ -13,4 +12,4 @@ returns c =
     ∙ ap (λ each. map (stored_at (old.shared.items ++ groups)) each) (c.in_ok-push.ensures.items)
     ∙ ap (λ n. map (stored_at (old.shared.items ++ groups)) (old.each.items ++ Shared n (length groups) ∷ []))
     (c.len-from.ensures ∙ old.shared.ok.0) ∙ share_more old.shared.items groups old.each.items c.self.invariant
-    ∙ ap (λ ends. ends ++ record { groups = groups; barred = no_workers } ∷ []) c.self.view_is
+    ∙ ap (λ ends. ends ++ record { groups = groups; barred = [] } ∷ []) c.self.view_is

@@ -1,6 +1,7 @@
 use Rattle.std.proofs.Common.{◌≤◌, refl, subst, sym, ◌∙◌}
 use Rattle.std.proofs.lemmas.Bool.{false≢true}
 use Rattle.rack_tree.specs.Tree.{Tree, AreCentresKnown}
+use Rattle.rack_tree.specs.declared.TheConstants.{MAX_WORKERS}
 use Rattle.rack_tree.proofs.Distances.{within_reach}
 use Rattle.wave_problem.proofs.Made.{moved_held, moved_small, within}
 use Rattle.wave_problem.proofs.problem.Problem.new.Goals as goal
@@ -20,8 +21,8 @@ returns-then-not-are_held_well-clause-holder c = (
 pub invariant_of-result : goal.invariant_of-result
 invariant_of-result c = within _ _ _ _ _
     (within_reach c.args.tree
-    (subst (λ (t : Tree). AreCentresKnown t) c.tree.view_is c.tree.invariant.within.centres_known)) c.requires
-    (subst (λ n. n ≤ 256) c.workers-count.ensures.count c.workers-count.ensures.most)
+    (subst (λ (t : Tree). AreCentresKnown t) c.tree.view_is c.tree.invariant.centres_known)) c.requires
+    (subst (λ n. n ≤ MAX_WORKERS) c.workers-count.ensures.count c.workers-count.ensures.most)
     (c.in-Ok.ensures ∙ c.deref-4.ensures.value)
     (moved_small _ _ _ _ c.deref.ensures.value c.deref-2.ensures.value
     (c.are_small.ensures.0 c.if-not-are_small.false))
