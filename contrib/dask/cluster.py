@@ -69,10 +69,10 @@ class Cluster:
     def disk(self, name: str) -> Path:
         return Path(self.room.name) / name
 
-    def add(self, name: str) -> None:
+    def add(self, name: str, nanny: str = "--no-nanny") -> None:
         """Starts a worker, or another one on the disk of one that died."""
         self.begin(name, "worker", "--scheduler-file", str(self.file), "--name", name, "--nthreads", str(self.threads),
-                   "--no-nanny", "--memory-limit", "0", "--local-directory", str(self.disk(name)))
+                   nanny, "--memory-limit", "0", "--local-directory", str(self.disk(name)))
 
     def add_together(self, names: list[str]) -> None:
         """Starts workers in one process."""

@@ -8,9 +8,10 @@
 The files below FOLDER are cut in blocks and laid in the memory of workers, as HDFS would lay them. Or blocks lie on the
 nodes' disks already: by `--table FILE`, of lines `FILE OFFSET BYTES NODE..`, each being a worker's name or host, a map
 reads its block from its own disk or from that of the nearest holder; by `--hdfs FILE`, which has what `hdfs fsck PATH
--files -blocks -locations` prints, it reads from `--webhdfs ADDRESS`. A worker's place is a line `NAME RACK [CENTRE]` of
-the topology, NAME being its name or host; else what HDFS lists; else the rack is its name up to the first dot, or is
-guessed from its host's network, of which is warned.
+-files -blocks -locations` prints, it reads from `--webhdfs ADDRESS`; by `--moosefs FILE`, which has what `mfsfileinfo
+PATH..` prints, it reads by the mount, which all workers have at the same place. A worker's place is a line `NAME RACK
+[CENTRE]` of the topology, NAME being its name or host; else what HDFS lists; else the rack is its name up to the first
+dot, or is guessed from its host's network, of which is warned.
 
 The index is written in the lines of `mrjob run`: `index N`, and `word WORD DOCUMENT..` for each. The status is 1 where
 a block has no living holder or its map kills workers, and 2 where the cluster, a file or a plan does not fit, or there
@@ -36,7 +37,7 @@ from distributed import Client
 sys.dont_write_bytecode = True
 sys.path[1:1] = [str(Path(__file__).resolve().parents[1]), str(Path(__file__).resolve().parents[2] / "python")]
 from mrjob_dask import Blocks, Files, Job, Keys, LostBlock, RarestFirst, Unfit, Work, planner_of
-from mrjob_dask import read_table, read_web
+from mrjob_dask import read_mounted, read_table, read_web
 from mrjob_dask.calls import look
 from mrjob_dask.files import Row
 from mrjob_dask.keys import as_hdfs
@@ -47,6 +48,7 @@ from mrjob_plan.master import MasterEnded
 
 import words
 from problem_of_hdfs import Stop, read_listing
+from problem_of_moosefs import read_chunks
 from words import blocks_of, index_lines, map_words, reduce_words, texts_of
 
 cloudpickle.register_pickle_by_value(words)
@@ -85,15 +87,16 @@ def blocks_asked(client: Client, asked: argparse.Namespace, racks: Table) -> Blo
     """The blocks that the words of the command speak of. Racks that HDFS lists are entered."""
     if asked.folder:
         return laid(client, asked, racks)
-    with open(asked.table or asked.hdfs, encoding="utf-8") as file:
+    with open(asked.table or asked.hdfs or asked.moosefs, encoding="utf-8") as file:
         if asked.table:
             return Files(client, read_table(file))
-        listing = read_listing(file)
+        listing = read_listing(file) if asked.hdfs else read_chunks(file)
     for told, count in listing.told.items():
         print(f"{count} {told}", file=sys.stderr)
     racks.update({host: (rack,) for host, rack in listing.racks.items() if host not in racks})
-    rows = [Row(it.file, it.offset, it.bytes, it.nodes) for it in listing.blocks]
-    return Files(client, rows, read_web(asked.webhdfs))
+    path = os.path.abspath if asked.moosefs else str
+    rows = [Row(path(it.file), it.offset, it.bytes, it.nodes) for it in listing.blocks]
+    return Files(client, rows, read_web(asked.webhdfs) if asked.hdfs else read_mounted)
 
 
 def words_of() -> argparse.Namespace:
@@ -103,6 +106,7 @@ def words_of() -> argparse.Namespace:
     add("--table", help="blocks in files, in lines FILE OFFSET BYTES NODE..")
     add("--hdfs", help="blocks in HDFS, as fsck lists them")
     add("--webhdfs", help="where HDFS is read, such as http://NAMENODE:9870")
+    add("--moosefs", help="blocks in MooseFS, as mfsfileinfo lists them")
     add("--scheduler", required=True, help="the address of Dask's scheduler")
     add("--planner", default="", help="`PROGRAM plan`, whose session decides the job, or `library`, which plans waves")
     add("--rarest-first", action="store_true", help="of equal plans, one with the blocks hardest to place later")
@@ -121,8 +125,8 @@ def words_of() -> argparse.Namespace:
     add("--report", help="where it is told what was started and carried")
     add("--history", metavar="NAME", help="write the session as a script NAME.txt with its report NAME.out")
     asked = parser.parse_args()
-    if sum(map(bool, (asked.folder, asked.table, asked.hdfs))) != 1:
-        parser.error("one of FOLDER, --table and --hdfs is wanted")
+    if sum(map(bool, (asked.folder, asked.table, asked.hdfs, asked.moosefs))) != 1:
+        parser.error("one of FOLDER, --table, --hdfs and --moosefs is wanted")
     if bool(asked.hdfs) != bool(asked.webhdfs):
         parser.error("--hdfs and --webhdfs go together")
     return asked

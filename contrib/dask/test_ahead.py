@@ -6,6 +6,7 @@ from __future__ import annotations
 import heapq
 import signal
 from collections import Counter
+from pathlib import Path
 from random import Random
 from typing import Callable
 
@@ -193,13 +194,15 @@ def backups(trial: Trial, count: Count, sort: str) -> None:
     says = f"{sort}, a map without end"
     count.holds(f"{says}: the index is that of the reference", lines == trial.wanted)
     ends = [it.end for it in job.attempts if it.split == slow]
-    count.holds(f"{says}: its second attempt is done, and it is late", ends == ["late", "done"], ends)
+    count.holds(f"{says}: of its two attempts one is done, and one is late", sorted(ends) == ["done", "late"], ends)
     kinds = [it for it in job.told() if it in ("wave", "backup")]
     again = Counter(it.split for it in job.attempts).most_common(1)[0][1]
     is_last = kinds == sorted(kinds, reverse=True)
     count.holds(f"{says}: no second attempt starts while splits wait, and no third", is_last and again == 2, kinds)
-    where = [(it.worker, it.source) for it in job.attempts if it.split == slow]
-    count.holds(f"{says}: it is started and read elsewhere", not {*where[0]} & {*where[1]}, where)
+    # (where no other worker has a free slot, the second attempt runs on the first one's source, and reads elsewhere)
+    (worker, source), (other, elsewhere) = where = [(it.worker, it.source) for it in job.attempts if it.split == slow]
+    is_else = other != worker and elsewhere not in (worker, source)
+    count.holds(f"{says}: it is started and read elsewhere", is_else, where)
     judged(job, count, says)
 
 
@@ -213,7 +216,7 @@ def stopped(trial: Trial, count: Count) -> None:
 
         def step(placing: Placing) -> None:
             left = [it for it in placing.attempts if it.end == "running"]
-            if not names and len(placing.maps) == 8 and len(left) == 1:
+            if not names and len(placing.maps) == 8 and len(left) == 1 and (Path(room) / "first").exists():
                 names.append(placing.names[left[0].worker])
                 trial.here.processes[names[0]].send_signal(signal.SIGSTOP)
                 placing.backup = 0.0

@@ -17,6 +17,7 @@ from trial import NAMES, PARTS, ROOT, Count, Gate, Trial, Watched, judged, place
 from distributed import Client, Status
 from mrjob_dask import DeadlySplit, Job, Keys, Placing, Planner, Work
 from mrjob_dask.calls import Copy, bring, look
+from mrjob_dask.masters import Attempt
 from mrjob_dask.place import Task, Tasks
 
 from cluster import Cluster, until
@@ -38,6 +39,13 @@ def set_worker(trial: Trial, name: str, status: Status, sends: int) -> str:
     return address
 
 
+def begun(trial: Trial, attempt: Attempt) -> None:
+    """Waits until the call of an attempt runs, or is done: a paused worker would not begin it."""
+    runs = lambda dask_worker: dask_worker.state.executing_count > 0
+    has_begun = lambda: attempt.future.done() or trial.here.client.run(runs, workers=[attempt.worker])[attempt.worker]
+    until(has_begun, f"{attempt.split} runs")
+
+
 def paused(trial: Trial, count: Count, sort: str) -> None:
     """A worker is paused while its map runs, and stays so: it is alive, and gets no more."""
     blocks, at = getattr(trial, sort)(), []
@@ -46,6 +54,7 @@ def paused(trial: Trial, count: Count, sort: str) -> None:
 
         def step(job: Watched) -> None:
             if not at:
+                begun(trial, job.attempts[0])
                 at.append(set_worker(trial, job.names[job.attempts[0].worker], Status.paused, 0))
             elif len(job.waves) > 1:
                 gate.open()
@@ -123,6 +132,7 @@ def two_jobs(trial: Trial, count: Count) -> None:
         thread = threading.Thread(target=lambda: results.append(index_lines(second.run())), daemon=True)
         thread.start()
         has_three.wait()  # (three maps wait, each on a worker of its own)
+        until(lambda: sum(it.others for it in look(mine).workers.values()) == 3, "the scheduler knows of three maps")
         lines = index_lines(first.run())
         first_blocks.close()
         mine.amm.run_once()
@@ -230,6 +240,61 @@ def returning(trial: Trial, count: Count, all_die: bool) -> None:
     number = len(killed)
     is_so = kinds[:number] == ["die"] * number and kinds.count("join") == kinds.count("die") == number
     count.holds(f"{says}: blocks waited for it", is_so, kinds)
+
+
+def restarted(trial: Trial, count: Count) -> None:
+    """The only holder of files is killed, and its nanny starts it again: within the grace time the job goes on."""
+    client, name, killed = trial.here.client, NAMES[0], []
+    trial.here.kill(name)
+    trial.here.add(name, "--nanny")
+    until(lambda: name in trial.here.addresses(), f"{name} is there")
+    blocks, first = trial.files(replicas=1), trial.here.addresses()[name]
+    with trial.room() as room:
+        gate = Gate(room)
+
+        def step(job: Watched) -> None:
+            if not killed:
+                killed.append(client.run(os.getpid, workers=[first])[first])
+                os.kill(killed[0], signal.SIGKILL)
+            elif trial.here.addresses().get(name, first) != first:
+                gate.open()
+
+        job = trial.job(blocks, gate, {pieces[0] for pieces in blocks.pieces.values()}, step)
+        job.grace = 1e9
+        lines = index_lines(job.run())
+    kinds = [it for it in job.told() if it in ("die", "join")]
+    count.holds("a nanny restarts a holder: the index is that of the reference", lines == trial.wanted)
+    count.holds("a nanny restarts a holder: blocks waited for it", kinds == ["die", "join"], kinds)
+    trial.here.kill(name)
+    trial.here.revive(NAMES)
+
+
+def retired(trial: Trial, count: Count, sort: str) -> None:
+    """A worker retires while its map runs."""
+    client, blocks, names, threads = trial.here.client, getattr(trial, sort)(), [], []
+    with trial.room() as room:
+        gate = Gate(room)
+
+        def step(job: Watched) -> None:
+            if not names:
+                names.append(job.names[job.attempts[0].worker])
+                address = trial.here.addresses()[names[0]]
+                threads.append(threading.Thread(target=client.retire_workers, args=[[address]], daemon=True))
+                threads[0].start()
+            elif names[0] not in trial.here.addresses():
+                gate.open()
+
+        job = trial.job(blocks, gate, {pieces[0] for pieces in [*blocks.pieces.values()][:3]}, step)
+        lines = index_lines(job.run())
+    threads[0].join()
+    says = f"{sort}, a worker that retires"
+    count.holds(f"{says}: the index is that of the reference", lines == trial.wanted)
+    gone = [(job.names[it.worker], job.names[it.source]) for it in [*job.ended("lost"), *job.ended("failed")]]
+    is_so = gone and all(names[0] in it for it in gone)
+    count.holds(f"{says}: just its maps and its readers' are made again", is_so, gone, names)
+    judged(job, count, says)
+    trial.here.processes[names[0]].wait()
+    trial.here.revive(NAMES)
 
 
 def parts(trial: Trial, count: Count, more: int) -> None:
@@ -407,5 +472,7 @@ def faults(trial: Trial, count: Count) -> None:
         parts(trial, count, more)
     for all_die in (False, True):
         returning(trial, count, all_die)
+    restarted(trial, count)
     for sort in ("keys", "files"):
+        retired(trial, count, sort)
         deadly(trial, count, sort)

@@ -140,14 +140,14 @@ def lost_key(trial: Trial, count: Count) -> None:
 
 def lost_file(trial: Trial, count: Count) -> None:
     """A block in a file that no worker holds."""
-    said = ""
+    said, wanted = "", "a%20file@5 has no living holder: nobody is no worker's name or host"
     with trial.room() as room:
         rows = [Row("here", 0, 0, NAMES), Row("a file", 5, 7, ["nobody"])]
         try:
             trial.job(Files(trial.here.client, rows), Gate(room), set(), lambda job: None).run()
         except LostBlock as why:
             said = str(why)
-    count.holds("a file without a living holder ends the job", said == "a%20file@5 has no living holder", said)
+    count.holds("a file without a living holder ends the job", said == wanted, said)
 
 
 def lost_files(trial: Trial, count: Count) -> None:
@@ -182,24 +182,57 @@ def failing(trial: Trial, count: Count) -> None:
     count.holds("a map that always fails ends the job after four tries", (said, most) == ("this map fails", 4), said)
 
 
-def beside_others(trial: Trial, count: Count) -> None:
-    """Others' tasks take slots."""
-    client, address = trial.here.client, trial.here.addresses()
+def left_over(trial: Trial, count: Count) -> None:
+    """Once a job has ended, well or not, nothing of it is on the cluster, though its user keeps it."""
+    keys = lambda job: trial.here.client.run_on_scheduler(
+        lambda mark, dask_scheduler: [it for it in dask_scheduler.tasks if mark in it], job.mark)
     with trial.room() as room:
         gate = Gate(room)
-        job = trial.job(trial.keys(), gate, set(), lambda job: gate.open() if len(job.ended("done")) > 8 else None)
+        well = trial.job(trial.files(), gate, set(), lambda job: None)
+        well.run()
+        until(lambda: not keys(well), "nothing of a job that ended well is left")
+
+        def stops(job: Watched) -> None:
+            gate.open()
+            raise KeyboardInterrupt
+
+        first = {pieces[0] for pieces in well.blocks.pieces.values()}
+        stopped = trial.job(well.blocks, gate, first, stops)
+        try:
+            stopped.run()
+        except KeyboardInterrupt:
+            until(lambda: not keys(stopped), "nothing of a job that was interrupted is left")
+    count.holds("a job leaves nothing on the cluster", well.maps and stopped.maps, well.maps, stopped.maps)
+
+
+def beside_others(trial: Trial, count: Count, most: int) -> None:
+    """Others' tasks take slots, until more than so many maps are done. Maps that waited for these slots until all were
+    done run elsewhere."""
+    client, address, turns = trial.here.client, trial.here.addresses(), []
+    with trial.room() as room, trial.room() as other_room:
+        gate, reduces = Gate(room), Gate(other_room)
+
+        def step(job: Watched) -> None:
+            if len(job.ended("done")) > most:
+                gate.open()
+            turns.extend([job] * all(it.done() for it in tasks))
+            if len(turns) > 3:  # (in which the job sees the free slots)
+                reduces.open()
+
+        job = trial.job(trial.keys(), reduces, set(), step, True)
         waits = gate.map({("", 0, 0)})
         tasks = [
-            client.submit(waits, b"", [("", 0, 0)], 1, key=f"others-{name}", workers=[address[name]])
+            client.submit(waits, b"", [("", 0, 0)], 1, key=f"others{job.mark}{name}", workers=[address[name]])
             for name in NAMES[:4]
         ]
         until(lambda: sum(it.others for it in look(client).workers.values()) == 4, "others' tasks run")
         lines = index_lines(job.run())
         client.gather(tasks)
     free = {job.names[it] for it, number in job.waves[0].wave.slots.items() if number}
-    count.holds("beside others' tasks: the index is that of the reference", lines == trial.wanted)
-    count.holds("beside others' tasks: the first wave goes to those that are free", free == {*NAMES[4:]}, free)
-    judged(job, count, "beside others' tasks")
+    says = f"beside others' tasks while {most} maps are done"
+    count.holds(f"{says}: the index is that of the reference", lines == trial.wanted)
+    count.holds(f"{says}: the first wave goes to those that are free", free == {*NAMES[4:]}, free)
+    judged(job, count, says)
 
 
 def jobs(planner: Planner, count: Count, more: Callable[[Trial, Count], None]) -> None:
@@ -220,7 +253,9 @@ def jobs(planner: Planner, count: Count, more: Callable[[Trial, Count], None]) -
         lost_file(trial, count)
         lost_files(trial, count)
         failing(trial, count)
-        beside_others(trial, count)
+        left_over(trial, count)
+        beside_others(trial, count, 8)
+        beside_others(trial, count, len(trial.cut) - 1)
         placed(trial, count)
         faults(trial, count)
         more(trial, count)

@@ -309,6 +309,19 @@ def hdfs(program: str, trial: Trial, count: Count) -> None:
     count.holds("index.py --hdfs: the index is that of the reference", (said, status) == (wanted, 0), why, status)
 
 
+def moosefs(program: str, trial: Trial, count: Count) -> None:
+    """The command over what mfsfileinfo lists, read by a folder that all workers have."""
+    folder, listing, lines = trial.here.disk("folder"), trial.here.disk("chunks"), []
+    for number, (name, _) in enumerate(trial.documents, 1):
+        chunk = f"\tchunk 0: {number:016X}_00000001 / (id:{number} ver:1)"
+        lines += [f"{folder / name}:", chunk, "\t\tcopy 1: 127.0.0.1:9422 (status:VALID)"]
+    listing.write_text("\n".join([*lines, ""]))
+    said, why, status = index(trial, "--planner", f"{program} plan", "--moosefs", str(listing))
+    said = said.replace(f" {folder}/", " ").splitlines()
+    is_so = (said, status) == (trial.wanted, 0)
+    count.holds("index.py --moosefs: the index is that of the reference", is_so, why, status)
+
+
 def main() -> int:
     faulthandler.register(signal.SIGUSR1)  # (scripts/dask.py asks where they hang)
     program = os.environ["MRJOB"] = os.path.abspath(sys.argv[1])  # (which clients of their own take too)
@@ -332,6 +345,7 @@ def main() -> int:
         both(program, library, trial, count)
         tables(program, trial, count)
         hdfs(program, trial, count)
+        moosefs(program, trial, count)
 
     jobs(planner_of(f"{program} plan", True), count, commands)
     print(f"{count.passed} passed, {count.failed} failed")

@@ -17,7 +17,7 @@ sys.path += [str(ROOT / "python"), str(ROOT / "contrib"), str(ROOT / "scripts")]
 from mrjob_dask import Files, Job, Keys, Place, Planner, Row, Work
 from mrjob_dask.calls import Piece, look
 from mrjob_dask.keys import as_hdfs
-from mrjob_dask.placing import Attempt
+from mrjob_dask.masters import Attempt
 
 import reference_run
 from reference_play import misplayed

@@ -13,7 +13,7 @@ import sys
 import cloudpickle
 
 from .blocks import Blocks, Splits
-from .files import Files, Row, read_table, read_web
+from .files import Files, Row, read_mounted, read_table, read_web
 from .job import Job, Work
 from .keys import Keys
 from .place import place, place_map
@@ -22,7 +22,7 @@ from .planner import Command, Library, NoPlanner, Place, Planner, RarestFirst, U
 from .topology import GuessedRacks
 
 __all__ = ["place", "place_map", "Job", "Work", "Placing", "Blocks", "Splits", "Keys", "Files", "Row", "read_table"]
-__all__ += ["read_web", "Place", "Planner", "Command", "Library", "RarestFirst", "planner_of", "GuessedRacks"]
-__all__ += ["LostBlock", "DeadlySplit", "Unfit", "NoPlanner"]
+__all__ += ["read_mounted", "read_web", "Place", "Planner", "Command", "Library", "RarestFirst", "planner_of"]
+__all__ += ["GuessedRacks", "LostBlock", "DeadlySplit", "Unfit", "NoPlanner"]
 
 cloudpickle.register_pickle_by_value(sys.modules[__name__])

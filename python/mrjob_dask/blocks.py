@@ -12,6 +12,7 @@ class Splits:
 
     def __init__(self) -> None:
         self.bytes: dict[str, int] = {}
+        self.nodes: dict[str, list[str]] = {}  # that hold a split, where these are named
 
     def keys(self, splits: Iterable[str]) -> list[str]:
         """The keys of which a look has to tell the holders, for these splits."""

@@ -12,7 +12,7 @@ from typing import Any, Callable, Iterable, Mapping, NamedTuple, Sequence
 
 import cloudpickle
 from dask.highlevelgraph import HighLevelGraph, MaterializedLayer
-from distributed import Client, Future, get_worker
+from distributed import Client, Future, get_worker, wait
 from distributed.core import clean_exception
 from distributed.utils import offload, sync
 from distributed.worker import get_data_from_worker
@@ -48,6 +48,18 @@ class Look:
         return [*dict.fromkeys(address for node in nodes for address in self.on.get(node, ()))]
 
 
+def named(nodes: Any) -> list[str]:
+    """The names, hosts or addresses of nodes, or of a node alone. Dask's own names of workers may be numbers."""
+    return [str(nodes)] if isinstance(nodes, (str, int)) else [*map(str, nodes)]
+
+
+def at_scheduler(client: Client, function: Callable[..., Any], *given: Any) -> Any:
+    """What a function gives that the scheduler calls."""
+    if client.asynchronous:
+        raise TypeError("the client is asynchronous, and one that is not is wanted")
+    return client.run_on_scheduler(function, *given)
+
+
 def look(client: Client, mark: str = "", keys: Sequence[str] = ()) -> Look:
     """One undivided look at the scheduler. A mark is what the keys of one job begin with."""
 
@@ -60,10 +72,10 @@ def look(client: Client, mark: str = "", keys: Sequence[str] = ()) -> Look:
         return (
             {address: (str(it.name), it.nthreads, threads(it), others(it)) for address, it in workers},
             [task.key for task in dask_scheduler.unrunnable if is_own(task)],
-            {task.key: [it.address for it in task.who_has] for task in tasks},
+            {task.key: [it.address for it in task.who_has or ()] for task in tasks},
         )
 
-    workers, aside, holders = client.run_on_scheduler(seen, mark, [*keys])
+    workers, aside, holders = at_scheduler(client, seen, mark, [*keys])
     return Look({address: Seen(*it) for address, it in workers.items()}, aside, holders)
 
 
@@ -83,14 +95,24 @@ def start(client: Client, calls: Mapping[str, Call]) -> list[Future]:
     return futures
 
 
+def finish(client: Client, futures: Sequence[Future]) -> None:
+    """Waits until futures are done. Raises what one of them raised."""
+    if futures:
+        with client.as_current():
+            wait([*futures])
+    for future in futures:
+        if future.status != "finished":
+            future.result()
+
+
 def sizes(client: Client, keys: Sequence[str]) -> dict[str, tuple[int, int]]:
     """The bytes of keys in memory, and how many workers hold each."""
 
     def sized(keys: list[str], dask_scheduler: Any) -> dict[str, tuple[int, int]]:
         tasks = [dask_scheduler.tasks[key] for key in keys if key in dask_scheduler.tasks]
-        return {task.key: (max(0, task.nbytes), len(task.who_has)) for task in tasks}
+        return {task.key: (max(0, task.nbytes), len(task.who_has or ())) for task in tasks}
 
-    answer: dict[str, tuple[int, int]] = client.run_on_scheduler(sized, [*keys])
+    answer: dict[str, tuple[int, int]] = at_scheduler(client, sized, [*keys])
     return answer
 
 
@@ -101,7 +123,7 @@ def free(client: Client, keys: Sequence[str]) -> None:
         for task in (dask_scheduler.tasks[key] for key in keys if key in dask_scheduler.tasks):
             task.loose_restrictions = True
 
-    client.run_on_scheduler(freed, [*keys])
+    at_scheduler(client, freed, [*keys])
 
 
 def hold(client: Client, futures: Sequence[Future], replicas: int) -> list[Future]:
@@ -114,7 +136,7 @@ def hold(client: Client, futures: Sequence[Future], replicas: int) -> list[Futur
         while not all(key in dask_scheduler.tasks for key in keys):
             await asyncio.sleep(0.01)
 
-    client.run_on_scheduler(known, keys)
+    at_scheduler(client, known, keys)
     return held
 
 
@@ -137,7 +159,7 @@ def bring(client: Client, copies: list[Copy]) -> set[str]:
         failed = {it[0] for it, missed in zip(live, said) if missed}
         return failed | {it[0] for it in copies} - {it[0] for it in live}
 
-    missed: set[str] = client.run_on_scheduler(brought, [tuple(it) for it in copies])
+    missed: set[str] = at_scheduler(client, brought, [tuple(it) for it in copies])
     return missed
 
 

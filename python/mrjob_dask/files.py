@@ -9,7 +9,7 @@ from urllib.request import urlopen
 from distributed import Client
 
 from .blocks import Blocks
-from .calls import Look, Piece, look, read_files
+from .calls import Look, Piece, look, named, read_files, read_here
 from .planner import Unfit
 
 
@@ -42,8 +42,8 @@ def rows_of(client: Client, paths: Mapping[str, Iterable[str]]) -> list[Row]:
     """Rows of whole files, by a table of the paths that each node holds; a worker there tells a file's bytes."""
     nodes: dict[str, list[str]] = {}
     for node, files in paths.items():
-        for file in files:
-            nodes.setdefault(file, []).append(node)
+        for file in named(files):
+            nodes.setdefault(file, []).append(str(node))
     seen = look(client)
     asked: dict[str, list[str]] = {}
     for file, at in nodes.items():
@@ -61,6 +61,11 @@ def rows_of(client: Client, paths: Mapping[str, Iterable[str]]) -> list[Row]:
 
 
 Read = Callable[[str, "list[Piece]"], bytes]
+
+
+def read_mounted(source: str, pieces: list[Piece]) -> bytes:
+    """A read of blocks by a file system that is mounted on each worker, and picks the replica itself."""
+    return read_here(pieces)
 
 
 def read_web(address: str) -> Read:
@@ -89,14 +94,14 @@ class Files(Blocks):
         self, client: Client, table: Union[Iterable[Row], Mapping[str, Iterable[str]]], read: Read = read_files
     ) -> None:
         super().__init__()
-        self.client, self.read, self.nodes = client, read, {}
+        self.client, self.read = client, read
         self.seen: Optional[Look] = None
         self.held: dict[str, list[str]] = {}  # the holders of splits, as long as the seen workers stay the same
         for row in rows_of(client, table) if isinstance(table, Mapping) else table:
             split = f"{document_name(row.file)}@{row.offset}"
             if split in self.pieces:
                 raise Unfit(f"{split} stands twice")
-            self.pieces[split], self.nodes[split] = [(row.file, row.offset, row.bytes)], row.nodes
+            self.pieces[split], self.nodes[split] = [(row.file, row.offset, row.bytes)], named(row.nodes)
             self.bytes[split] = row.bytes
 
     def holders(self, split: str, look: Look) -> list[str]:

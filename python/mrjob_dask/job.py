@@ -13,8 +13,8 @@ from mrjob_plan.master import NoSession
 
 from .blocks import Blocks
 from .calls import Call, Look, Piece
-from .masters import Session
-from .placing import GRACE, MOST_TRIES, Attempt, Placing
+from .masters import Attempt, Session
+from .placing import GRACE, MOST_TRIES, Placing
 from .planner import Place, Planner, program_of
 from .topology import Racks
 
@@ -93,8 +93,8 @@ class Job(Placing):
                     self.start_reduces()
                 self.collect()
         finally:
+            self.release()
             self.master.close()
-        self.let_go(self.late)
         return [self.results[part] for part in range(self.work.parts)]
 
     def history(self) -> Optional[tuple[list[str], list[str]]]:
@@ -136,9 +136,16 @@ class Job(Placing):
         for part in [*self.reduces]:
             self.forget(part)
 
+    def release(self) -> None:
+        super().release()
+        for _, future in self.reduces.values():
+            future.release()
+
     def forget(self, part: int) -> None:
+        attempt, future = self.reduces.pop(part)
+        future.release()
         with suppress(Ignored):  # (where it was lost with a worker)
-            self.master.tell(calls.fail(self.reduces.pop(part)[0]))
+            self.master.tell(calls.fail(attempt))
 
     def where(self, worker: str) -> dict[str, Any]:
         """Where Dask is to put a part, or what is picked for it: on this worker if it has a thread free, else off those

@@ -5,10 +5,10 @@ from collections import Counter
 from random import Random
 from typing import Any, Callable, Iterable, Mapping, Sequence
 
-from distributed import Client, Future, wait
+from distributed import Client, Future
 
 from .blocks import Blocks
-from .calls import Copy, Look, Piece, as_it_is, bring, hold, read_key, sizes
+from .calls import Copy, Look, Piece, as_it_is, bring, finish, hold, read_key, sizes
 from .planner import Place, nearest
 
 AT_ONCE = 64  # so many copies are under way at most
@@ -47,11 +47,7 @@ class Keys(Blocks):
         """Enters futures, once they are done."""
         if not futures:
             return
-        with self.client.as_current():
-            wait([*futures])
-        for future in futures:
-            if future.status != "finished":
-                future.result()  # (which raises what it raised)
+        finish(self.client, futures)
         known = sizes(self.client, [it.key for it in futures])
         for future in futures:
             size = known[future.key][0]

@@ -68,7 +68,7 @@ class Waves:
         """Starts these parts, which are all that are open."""
         return [Reduce(0, part, "") for part in parts]
 
-    def kept(self, going: Sequence[Attempt]) -> set[int]:
+    def kept(self, going: Sequence[Attempt], waiting: Sequence[Start]) -> set[int]:
         """The attempts that run, and of each split that is done the first."""
         done = {it.split: it.told for it in reversed(going) if it.end == "done"}
         return {it.told for it in going if it.end in ("running", "done") and done.get(it.split, it.told) == it.told}
@@ -76,7 +76,7 @@ class Waves:
     def tell(self, *what: object) -> None:
         """A planner need not know what happened."""
 
-    die = join = add = close = tell
+    die = join = add = close = tell_done = tell
 
 
 def fit(name: str) -> str:
@@ -111,6 +111,7 @@ class Session:
             for it, size in splits.bytes.items()  # (one of no bytes could be told to run nowhere in particular)
         }
         self.is_worn, self.has_news = False, True
+        self.is_kept = False  # whether nothing was told since by which an attempt may be kept no more
         self.outs: Optional[set[str]] = None
         self.script, self.report = [*calls.head(cluster, blocks, parts=parts), "begin"], list[str]()
         self.master = Master(self.script[:-1], program=program)
@@ -134,11 +135,22 @@ class Session:
     def tell(self, call: Call[T]) -> T:
         answer = self.master.tell(call.line)
         if call.line not in QUERIES:
-            self.script.append(call.line)
-            self.report += answer
-            self.has_news = True
-            self.is_worn = self.is_worn or len(self.script) > MOST_LINES
+            self.note(call.line, answer)
+            self.is_kept = self.is_kept and call.line.startswith(("wave", "reduce", "add"))
         return call.answered(answer)
+
+    def tell_done(self, attempts: Sequence[Attempt]) -> None:
+        """Tells of attempts that are done, all at once; of two of one split the second is ignored."""
+        lines = [calls.done(it.told).line for it in attempts]
+        for line, answer in zip(lines, self.master.tell_all(lines)):
+            self.note(line, answer)
+            self.is_kept = self.is_kept and answer[0].startswith("accepted")
+
+    def note(self, line: str, answer: list[str]) -> None:
+        self.script.append(line)
+        self.report += answer
+        self.has_news = True
+        self.is_worn = self.is_worn or len(self.script) > MOST_LINES
 
     def retell(self, attempt: Attempt) -> None:
         """Starts a split where it runs or is done, which is its only holder."""
@@ -150,10 +162,10 @@ class Session:
 
     def wave(self, wave: Wave, running: Mapping[str, Sequence[float]]) -> list[Start]:
         """What starts, if there is news. A split that failed everywhere may start again in a new session."""
-        for split, it in wave.splits.items():
-            if it.holders != self.held[split]:
-                self.hold(split, it.holders)
-        outs = {it for it in wave.splits if wave.is_out(it)}
+        for split, (_, holders, _) in wave.splits.items():
+            if holders != self.held[split]:
+                self.hold(split, holders)
+        outs = {split for split in wave.splits if wave.is_out(split)}
         self.outs = outs if self.outs is None else self.outs
         self.is_worn = self.is_worn or not outs <= self.outs
         if not self.has_news:
@@ -206,8 +218,13 @@ class Session:
             for split in splits:
                 self.add(split, worker)
 
-    def kept(self, going: Sequence[Attempt]) -> set[int]:
-        """The attempts that run, and those whose outputs count."""
+    def kept(self, going: Sequence[Attempt], waiting: Sequence[Start]) -> Optional[set[int]]:
+        """The attempts that run or wait, and those whose outputs count; nothing where these are all, since no split has
+        two and none ended but as done."""
+        splits = [*(it.split for it in going), *(it.split for it in waiting)]
+        if self.is_kept and len({*splits}) == len(splits):
+            return None
+        self.is_kept = True
         work = self.tell(calls.open_work())
         return {it.attempt for it in (*work.starts, *work.backups, *self.tell(calls.outputs()))}
 

@@ -27,7 +27,7 @@ from .topology import Racks, Topology
 MOST_TRIES = 4  # so often a call may raise
 MOST_DEATHS = 3  # and on so many workers it may be running as they die
 GRACE = 30.0  # seconds for which a split may be without a holder, as while a nanny restarts its worker
-ENDS = {"done": calls.done, "failed": calls.fail, "lost": calls.withdraw}  # as the master is told of them
+ENDS = {"failed": calls.fail, "lost": calls.withdraw}  # as the master is told of them
 
 
 class LostBlock(Exception):
@@ -90,8 +90,12 @@ class Placing:
     def run(self) -> list[Future]:
         """The futures of all calls, done, in the order of their splits. Raises LostBlock, DeadlySplit, Unfit, or what
         a call raised too often."""
-        while not self.turn():
-            pass
+        try:
+            while not self.turn():
+                pass
+        except BaseException:
+            self.release()
+            raise
         self.let_go(self.late)
         return [self.maps[split].future for split in self.splits.bytes]
 
@@ -159,7 +163,7 @@ class Placing:
 
     def take_back(self, seen: Look) -> bool:
         """Tells how calls ended, and lets go of those that the master keeps no more. Whether more splits wait."""
-        began = len(self.maps)
+        began, done = len(self.maps), []
         for attempt in self.going:
             was, end = attempt.end, self.end_of(attempt, seen)
             if end == was:
@@ -171,12 +175,12 @@ class Placing:
             attempt.end = end
             if end == "done":
                 self.pace.note(attempt.worker, time.monotonic() - attempt.began)
-            if end == "failed":
-                self.note_failure(attempt, len(seen.workers))
-            if attempt.worker in seen.workers:
-                self.tell_end(attempt, was)
+                done.append(attempt)
+            elif attempt.worker in seen.workers:
+                self.tell_end(attempt, was, len(seen.workers))
             elif was == "running":
                 self.died_on[attempt.split].append(self.names[attempt.worker])
+        self.master.tell_done(done)
         self.refuse_deadly()
         self.keep()
         self.let_go([it for it in self.late if it.future.status != "pending" or it.worker not in seen.workers])
@@ -191,9 +195,11 @@ class Placing:
             return "failed" if attempt.source in seen.workers else "lost"
         return "done" if status == "finished" else attempt.end
 
-    def tell_end(self, attempt: Attempt, was: str) -> None:
-        """Tells the master of an end, but for that of the second of two attempts that are done at once. A worker that
-        lost what it had done is as one that died and came back."""
+    def tell_end(self, attempt: Attempt, was: str, workers: int) -> None:
+        """Tells the master of an end other than done. A worker that lost what it had done is as one that died and came
+        back."""
+        if attempt.end == "failed":
+            self.note_failure(attempt, workers)
         with suppress(Ignored):
             if was == "running":
                 self.master.tell(ENDS[attempt.end](attempt.told))
@@ -214,9 +220,11 @@ class Placing:
             raise DeadlySplit("; ".join(told))
 
     def keep(self) -> None:
-        """Keeps the attempts that the master keeps. One whose split was done by another is late, and has its slot until
-        it ends."""
-        kept = self.master.kept(self.going)
+        """Keeps the attempts that the master keeps, if not all. One whose split was done by another is late, and has
+        its slot until it ends."""
+        kept = self.master.kept(self.going, self.waiting)
+        if kept is None:
+            return
         self.waiting = [it for it in self.waiting if it.attempt in kept]
         gone = [it for it in self.going if it.told not in kept]
         self.going = [it for it in self.going if it.told in kept]
@@ -231,14 +239,18 @@ class Placing:
                 self.drop(it)
 
     def drop(self, attempt: Attempt) -> None:
-        """Forgets an attempt that is no more."""
-        self.client.cancel([attempt.future], force=True)
+        """Forgets an attempt that is no more. (Dask's `cancel` would stumble over tasks that nobody wants.)"""
+        attempt.future.release()
+
+    def release(self) -> None:
+        """Leaves nothing on the cluster."""
+        self.let_go([*self.going, *self.late])
 
     def let_go(self, late: list[Attempt]) -> None:
-        """Releases what late attempts gave, or may yet give."""
-        if late:
-            self.client.cancel([it.future for it in late], force=True)
-            self.late = [it for it in self.late if it not in late]
+        """Releases what attempts gave, or may yet give."""
+        for it in late:
+            it.future.release()
+        self.late = [it for it in self.late if it not in late]
 
     # ---- what is started ----
 
@@ -266,7 +278,8 @@ class Placing:
         now = time.monotonic()
         since = self.bare_since.setdefault(split, now)
         if self.splits.is_gone(split) or now - since >= self.grace:
-            raise LostBlock(f"{split} has no living holder")
+            nodes = " or ".join(self.splits.nodes.get(split, ()))
+            raise LostBlock(f"{split} has no living holder" + f": {nodes} is no worker's name or host" * (nodes != ""))
 
     def start_wave(self, seen: Look, wave: Wave) -> None:
         """Starts a wave, and begins what the master started where a thread is free. The rest waits, as for others'

@@ -3,13 +3,14 @@ from __future__ import annotations
 
 import warnings
 from ipaddress import ip_address, ip_network
-from typing import Callable, Mapping, Union
+from typing import Any, Callable, Mapping, Union
 
-from .planner import Place
+from .planner import Place, Unfit
 
 # A rack alone, or with its data centre.
 Rack = Union[str, tuple[str, str]]
-Racks = Union[None, Mapping[str, Rack], Callable[[str], Rack]]
+# A table by names of workers, which may be numbers, or by hosts; or a function of a name.
+Racks = Union[None, Mapping[Any, Rack], Callable[[str], Rack]]
 
 
 class GuessedRacks(UserWarning):
@@ -34,18 +35,26 @@ def is_address(name: str) -> bool:
     return "://" in name or network_of(name) != "default"
 
 
+def place_of(rack: Any) -> Place:
+    """The place that is told by a rack alone, or with its data centre."""
+    words = [*map(str, rack if isinstance(rack, (tuple, list)) else [rack])]
+    if len(words) not in (1, 2):
+        raise Unfit(f"{rack!r} is neither a rack nor a rack with its data centre")
+    return Place(*words)
+
+
 class Topology:
     """The places of workers. `racks` is a table by names or hosts, or a function of a name, and it goes first."""
 
     def __init__(self, racks: Racks = None) -> None:
-        self.racks = racks
+        self.racks = {str(node): rack for node, rack in racks.items()} if isinstance(racks, Mapping) else racks
         self.known: dict[str, Place] = {}  # by a worker's address
         self.guessed: dict[str, Place] = {}  # by its name
 
     def place(self, name: str, address: str) -> Place:
         given = self.given(name, host_of(address))
         if given is not None:
-            return Place(given) if isinstance(given, str) else Place(*given)
+            return place_of(given)
         if "." in name and not is_address(name):
             return Place(name.partition(".")[0])
         self.guessed[name] = Place(network_of(host_of(address)))
@@ -55,7 +64,7 @@ class Topology:
         if self.racks is None:
             return None
         if isinstance(self.racks, Mapping):
-            return self.racks.get(name) or self.racks.get(host)
+            return self.racks.get(name, self.racks.get(host))
         return self.racks(name)
 
     def places(self, names: Mapping[str, str]) -> dict[str, Place]:

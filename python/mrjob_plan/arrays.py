@@ -34,7 +34,8 @@ CODES = {c_uint16: "H", c_uint64: "Q"}
 
 
 class Network(IntEnum):
-    """Over which network a plan is made: either gives a best plan, RACKS in less time; DIRECT takes 1,024 splits."""
+    """Over which network a plan is made: either gives a best plan, RACKS in less time; DIRECT takes 1,024 splits and 256
+    workers."""
 
     RACKS = 0
     DIRECT = 1

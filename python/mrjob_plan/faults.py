@@ -20,15 +20,16 @@ class Status(IntEnum):
 
 
 WORDS = {
-    Status.BAD_RACKS: "there are more than 8 data centres or 32 racks, or a rack is in no data centre",
-    Status.BAD_WORKERS: "there are more than 256 workers, or one is in no rack or has more than 255 slots",
+    Status.BAD_RACKS: "there are more than 256 data centres or 4,096 racks, or a rack is in no data centre",
+    Status.BAD_WORKERS: "there are more than 32,768 workers, or one is in no rack or has more than 255 slots",
     Status.BAD_SPLITS: "there are more than 65,535 splits, or one has more than 8,589,934,592 bytes or 8 holders, "
     "or a holder past the last",
     Status.BAD_BARRED: "a barred pair is of no split or of no worker",
     Status.BAD_HOLDERS: "a holder is no worker, or stands twice at one split",
     Status.BAD_LENGTH: "there is not one start and price for each split and one price for each worker",
     Status.BAD_STARTS: "a split starts on no worker",
-    Status.BAD_NETWORK: "there is no such network, or there are more than 1,024 splits for the direct one",
+    Status.BAD_NETWORK: "there is no such network, or there are more than 1,024 splits or 256 workers for the direct "
+    "one",
     Status.NO_MEMORY: "there is no memory",
 }
 

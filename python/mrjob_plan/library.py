@@ -8,16 +8,17 @@ from pathlib import Path
 VERSION = 1
 NAME = f"libmrjob.so.{VERSION}"
 
-MAX_CENTRES = 8
-MAX_RACKS = 32
-MAX_WORKERS = 256
+MAX_CENTRES = 256
+MAX_RACKS = 4096
+MAX_WORKERS = 32768
 MAX_SPLITS = 65535
 # Of a plan over the direct network.
 MAX_DIRECT_SPLITS = 1024
+MAX_DIRECT_WORKERS = 256
 MAX_HOLDERS = 8
 MAX_SLOTS = 255
 MAX_BYTES = 8589934592
-# In a place of a worker or a split: none. The splits are numbered below it.
+# In a place of a worker or a split: none. Workers and splits are numbered below it.
 NONE = 65535
 
 

@@ -35,6 +35,8 @@ Program = Union[str, Sequence[str]]
 
 # A line of an index has at most so many bytes.
 MOST_BYTES = 1 << 24
+# So many bytes wait in a pipe for a reader that is busy.
+PIPE_BYTES = 1 << 15
 
 
 class MasterEnded(Exception):
@@ -95,6 +97,19 @@ def is_query(lines: Sequence[str]) -> bool:
 def one_line_each(lines: Sequence[str]) -> None:
     if any("\n" in line for line in lines):
         raise ValueError("a line has no line feed")
+
+
+def batches(lines: Iterable[str]) -> List[List[str]]:
+    """Lines in batches that a pipe has room for, so that the master is never waited for as it waits itself."""
+    found: List[List[str]] = []
+    room = 0
+    for line in lines:
+        room -= len(line.encode()) + 1
+        if room < 0:
+            found.append([])
+            room = PIPE_BYTES - len(line.encode()) - 1
+        found[-1].append(line)
+    return found
 
 
 def opened(answer: Sequence[str]) -> None:
@@ -185,6 +200,11 @@ class Master:
         """The lines of the answer to a line, whatever it is."""
         with self._turn:
             return self._tell_all([line])[0]
+
+    def tell_all(self, lines: Iterable[str]) -> List[List[str]]:
+        """The answers to lines of which none asks. They are sent many at once, and so sooner than one by one."""
+        with self._turn:
+            return [answer for batch in batches(lines) for answer in self._tell_all(batch)]
 
     def _tell_all(self, lines: Sequence[str]) -> List[List[str]]:
         """The answers to some lines, which are sent at once; for who has the turn."""
@@ -383,6 +403,13 @@ class AsyncMaster:
     async def tell(self, line: str) -> List[str]:
         # (a caller that is cancelled leaves no answer unread)
         return await asyncio.shield(self._tell(line))
+
+    async def tell_all(self, lines: Iterable[str]) -> List[List[str]]:
+        return await asyncio.shield(self._tell_batches(batches(lines)))
+
+    async def _tell_batches(self, of_lines: Iterable[Sequence[str]]) -> List[List[str]]:
+        async with self._turn:
+            return [answer for batch in of_lines for answer in await self._tell_all(batch)]
 
     async def _tell(self, line: str) -> List[str]:
         async with self._turn:

@@ -2,8 +2,8 @@
 from typing import TYPE_CHECKING, Callable, Dict, Iterable, Iterator, Mapping
 
 from .faults import WORDS, NoMemory, Status, Unfit
-from .library import MAX_BYTES, MAX_CENTRES, MAX_DIRECT_SPLITS, MAX_HOLDERS, MAX_RACKS, MAX_SLOTS, MAX_SPLITS
-from .library import MAX_WORKERS, NONE
+from .library import MAX_BYTES, MAX_CENTRES, MAX_DIRECT_SPLITS, MAX_DIRECT_WORKERS, MAX_HOLDERS, MAX_RACKS, MAX_SLOTS
+from .library import MAX_SPLITS, MAX_WORKERS, NONE
 
 if TYPE_CHECKING:
     from .arrays import Elements, Wave
@@ -95,6 +95,7 @@ def of_starts(wave: "Wave", starts: "Elements") -> Found:
 def of_network(wave: "Wave", network: int) -> Found:
     if network == 1:
         yield from past(len(wave.splits), MAX_DIRECT_SPLITS, "splits for the direct network")
+        yield from past(len(wave.workers), MAX_DIRECT_WORKERS, "workers for the direct network")
     yield f"network {network:,} is neither 0, over racks, nor 1, direct"
 
 
