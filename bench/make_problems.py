@@ -5,17 +5,19 @@
     make_problems.py drawn SEED
 
 The first writes the text of one shape, with so many splits, a multiple of 128, its racks in so many data centres, and
-so many workers, a multiple of 16; with 1,024, 1 and a worker for each four splits where these are not given. The second
-writes a problem of 1,024 splits and 256 workers of which all else is drawn: racks, data centres, slots too few, as many
-as splits or more, holders and where they may be, barred pairs of no split, of one, of some or of all, and bytes. Without
-an argument it writes the names of the shapes.
+so many workers, a multiple of 16; with 1,024, 1 and a worker for each four splits where these are not given. It is of
+version 3 where it has more splits than 1,024 or more workers than 256. The second writes a problem of 1,024 splits and
+256 workers of which all else is drawn: racks, data centres, slots too few, as many as splits or more, holders and where
+they may be, barred pairs of no split, of one, of some or of all, and bytes. Without an argument it writes the names of
+the shapes.
 """
 import random
 import sys
 
-SPLITS = 1024
+SPLITS, WORKERS = 1024, 256
 BLOCK = 67_108_864
 
+# With so many splits and workers. Racks of 8 workers, and one host's neighbours, grow with the workers.
 SHAPES = {
     "one_host": "one host without slots holds all splits; 64 workers of 16 slots stand in another rack",
     "one_of_many": "32 racks of 8 workers of 4 slots; one of these workers holds all splits",
@@ -58,7 +60,7 @@ BARRED = {"all_barred": 1024, "many_barred": 300, "some_barred": 100, "half_wait
 def workers(shape, count, rnd):
     """The rack and the free slots of each worker."""
     if shape == "one_host":
-        return [(0, 0)] + [(1, 16)] * 64
+        return [(0, 0)] + [(1, 16)] * max(64, count // 4)
     slots = {
         "one_of_many": lambda: 4,
         "crowded": lambda: 3,
@@ -134,7 +136,7 @@ def drawn(seed):
     barred, most = BARS[rnd.choice(["none", "one_split", "one_each", "few", "few_of_many", "many", "many"])](rnd)
     yield from ["problem 2", *(f"centre c{c}" for c in range(centres))]
     yield from (f"rack r{r} c{rnd.randrange(centres)}" for r in range(racks))
-    yield from (f"worker w{w} r{rnd.randrange(used)} {slots(rnd)}" for w in range(256))
+    yield from (f"worker w{w} r{rnd.randrange(used)} {slots(rnd)}" for w in range(WORKERS))
     has_bars = set(rnd.sample(range(SPLITS), barred))
     for s in range(SPLITS):
         held = rnd.sample(range(among), holders(rnd))
@@ -157,9 +159,10 @@ def main():
     rnd = random.Random(shape)
     stand = workers(shape, count, rnd)
     racks = 1 + max(rack for rack, _ in stand)
+    version = 3 if splits > SPLITS or count > WORKERS else 2 if centres > 1 else 1
     lines = ["problem 1", *(f"rack r{r}" for r in range(racks))]
-    if centres > 1:
-        lines = ["problem 2", *(f"centre c{c}" for c in range(centres))]
+    if version > 1:
+        lines = [f"problem {version}", *(f"centre c{c}" for c in range(centres))]
         lines += [f"rack r{r} c{r * centres // racks}" for r in range(racks)]
     lines += [f"worker w{w} r{rack} {slots}" for w, (rack, slots) in enumerate(stand)]
     for s in range(splits):

@@ -11,6 +11,7 @@ writes `certified 2 20`.
 import argparse
 import signal
 import sys
+from collections import Counter, defaultdict
 
 sys.dont_write_bytecode = True
 from texts import Fault, read
@@ -29,7 +30,7 @@ class Wave:
         ]
         self.start = [text.numbers["worker"].get(text.starts.get(name)) for name in self.split_names]
         self.started = [(s, w) for s, w in enumerate(self.start) if w is not None]
-        self.load = [self.start.count(w) for w in self.workers]
+        self.load = Counter(w for _, w in self.started)
         self.price = [int(text.prices.get(name, 0)) for name in self.split_names]
         self.slot_price = [int(text.prices.get(name, 0)) for name in self.worker_names]
         self.reward = 1 + (6 if len(text.numbers["centre"]) > 1 else 4) * sum(text.bytes)
@@ -49,16 +50,53 @@ class Wave:
     def may_take(self, s, w):
         return self.lives[w] and ("barred", self.split_names[s], self.worker_names[w]) not in self.text.marks
 
+    def may_start(self, s, w):
+        return self.is_open[s] and self.text.free[w] > 0 and self.may_take(s, w)
+
+    def by_price(self):
+        """The live workers with a free slot by rising price: those of each rack, of each data centre, and all."""
+        near = defaultdict(list)
+        for w in sorted(self.workers, key=self.slot_price.__getitem__):
+            if self.lives[w] and self.text.free[w]:
+                rack = self.text.rack_of[w]
+                for place in (("rack", rack), ("centre", *self.text.centre_of[rack]), "all"):
+                    near[place].append(w)
+        return near
+
+    def lists(self, s, near):
+        """Lists of workers by rising price, and how many steps from the split each of a list's workers is at most."""
+        for holder in self.live_holders[s]:
+            rack = self.text.rack_of[holder]
+            yield from ((0, [holder]), (2, near[("rack", rack)]), (4, near[("centre", *self.text.centre_of[rack])]))
+        yield 6, near["all"]
+
+    def is_underpriced(self, s, near):
+        """Whether the prices of a pair of the split are too low. Each worker stands in a list at its own distance, and in
+        others at no lesser one. So the first worker of each list on which the split may start decides."""
+        for steps, workers in self.lists(s, near):
+            least = next((w for w in workers if self.may_start(s, w)), None)
+            if least is not None and self.price[s] + self.slot_price[least] + steps * self.text.bytes[s] < self.reward:
+                return True
+        return False
+
+    def underpriced(self):
+        """The pairs whose prices are too low, of the first split that has one."""
+        near = self.by_price()
+        first = next((s for s in self.splits if self.is_open[s] and self.is_underpriced(s, near)), None)
+        return (
+            (first, w) for w in self.workers
+            if first is not None and self.may_start(first, w) and self.sum(first, w) < self.reward
+        )
+
     def failures(self):
-        """The demands that fail, in their order, each with its places by split and then by worker."""
+        """The demands that fail, in their order, each with its places by split and then by worker; C5 of one split."""
         free = self.text.free
         yield from (("C1", s, None) for s, _ in self.started if not self.is_open[s])
         yield from (("C2", s, w) for s, w in self.started if not self.may_take(s, w))
         yield from (("C3", None, w) for w in self.workers if self.load[w] > free[w])
         yield from (("C4", s, None) for s in self.splits if self.price[s] > self.reward)
         yield from (("C4", None, w) for w in self.workers if self.slot_price[w] > self.reward)
-        pairs = ((s, w) for s in self.splits if self.is_open[s] for w in self.workers if free[w])
-        yield from (("C5", s, w) for s, w in pairs if self.may_take(s, w) and self.sum(s, w) < self.reward)
+        yield from (("C5", s, w) for s, w in self.underpriced())
         yield from (("C6", s, w) for s, w in self.started if self.sum(s, w) != self.reward)
         yield from (("C7", s, None) for s in self.splits if self.start[s] is None and self.price[s] != 0)
         yield from (("C8", None, w) for w in self.workers if self.load[w] < free[w] and self.slot_price[w] != 0)

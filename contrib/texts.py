@@ -6,9 +6,9 @@ import re
 
 NAME, NUMBER = re.compile(r"[A-Za-z][A-Za-z0-9._-]{0,31}"), re.compile(r"0|[1-9][0-9]*")
 LONG_NAME = re.compile(r"[A-Za-z0-9._:/-]{1,64}")
-MOST = {"centre": 8, "rack": 32, "worker": 256, "split": 131_072}
+MOST = {"centre": 256, "rack": 4096, "worker": 32_768, "split": 131_072}
 # What is less in texts of an older version than 3.
-MOST_SPLITS, MOST_SLOTS, MOST_BYTES = 1024, 16, 67_108_864
+OLD_MOST, MOST_SLOTS, MOST_BYTES = {"centre": 8, "rack": 32, "worker": 256, "split": 1024}, 16, 67_108_864
 # The places of each line: `+KIND` declares a name, KIND uses one, LEAST-GREATEST is a number, and a `*` says any count.
 HEAD = {
     "centre": "+centre", "rack": "+rack", "worker": "+worker rack 0-255", "split": "+split 0-8589934592 worker*",
@@ -76,8 +76,8 @@ class Text:
         if not (NAME if self.version < 3 else LONG_NAME).fullmatch(word):
             return [2]
         if place[0] == "+":
-            most = MOST_SPLITS if place == "+split" and self.version < 3 else MOST[place[1:]]
-            return [4] * (word in self.kinds) + [6] * (len(self.numbers[place[1:]]) == most)
+            kind, most = place[1:], MOST if self.version == 3 else OLD_MOST
+            return [4] * (word in self.kinds) + [6] * (len(self.numbers[kind]) == most[kind])
         return [] if self.kinds.get(word) in (["split", "worker"] if place == "priced" else [place]) else [3]
 
     def again(self, keyword, words):

@@ -41,16 +41,17 @@ extern "C" {
 
 /* ---- bounds ---- */
 
-#define MRJOB_MAX_CENTRES 8
-#define MRJOB_MAX_RACKS 32
-#define MRJOB_MAX_WORKERS 256
+#define MRJOB_MAX_CENTRES 256
+#define MRJOB_MAX_RACKS 4096
+#define MRJOB_MAX_WORKERS 32768
 #define MRJOB_MAX_SPLITS 65535
 #define MRJOB_MAX_DIRECT_SPLITS 1024 /* of a plan over MRJOB_DIRECT */
+#define MRJOB_MAX_DIRECT_WORKERS 256 /* of a plan over MRJOB_DIRECT */
 #define MRJOB_MAX_HOLDERS 8          /* of one split */
 #define MRJOB_MAX_SLOTS 255          /* of one worker: any uint8_t */
 #define MRJOB_MAX_BYTES 8589934592   /* of one split, 8 GiB */
 
-/* In a place of a worker or a split: none. The splits are numbered below it. */
+/* In a place of a worker or a split: none. Workers and splits are numbered below it. */
 #define MRJOB_NONE 65535
 
 /* ---- what is answered ---- */
@@ -67,14 +68,14 @@ enum mrjob_status {
     MRJOB_BAD_HOLDERS = 6, /* a holder that is no worker, or that a split has twice */
     MRJOB_BAD_LENGTH = 7,  /* not one start and price for each split and one price for each worker */
     MRJOB_BAD_STARTS = 8,  /* of a check: a start on no worker that is not MRJOB_NONE */
-    MRJOB_BAD_NETWORK = 9, /* of a plan: no such network, or more than 1,024 splits for the direct one */
+    MRJOB_BAD_NETWORK = 9, /* of a plan: no such network, or too many splits or workers for the direct one */
     MRJOB_NO_MEMORY = 10   /* malloc gave none */
 };
 
 /* Over which network a plan is made. Either gives a best plan; where several are, they may differ. */
 enum mrjob_network {
     MRJOB_RACKS = 0,  /* with a node for each rack and data centre: the quicker one */
-    MRJOB_DIRECT = 1  /* with an arc from each split to each worker: for at most 1,024 splits */
+    MRJOB_DIRECT = 1  /* with an arc from each split to each worker: for 1,024 splits and 256 workers */
 };
 
 /* ---- what is asked ---- */
@@ -242,7 +243,7 @@ static inline const char *mrjob_status_text(uint32_t status)
     case MRJOB_BAD_HOLDERS: return "a holder that is no worker, or that a split has twice";
     case MRJOB_BAD_LENGTH: return "not one start and price for each split and one price for each worker";
     case MRJOB_BAD_STARTS: return "a start on no worker";
-    case MRJOB_BAD_NETWORK: return "no such network, or more than 1,024 splits for the direct one";
+    case MRJOB_BAD_NETWORK: return "no such network, or too many splits or workers for the direct one";
     case MRJOB_NO_MEMORY: return "no memory";
     default: return "no status";
     }

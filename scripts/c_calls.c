@@ -1,6 +1,6 @@
 /* Calls the C library as its header allows: each status, arrays of no elements, each allocation refused in turn, and
- * threads with small stacks: four at once, and one that has the most splits planned. The last line is 'N passed, M
- * failed', and lines before name what failed.
+ * threads with small stacks: four at once, one that has the most splits planned, and one that has the most workers
+ * planned. The last line is 'N passed, M failed', and lines before name what failed.
  *
  * It is linked with lib/libmrjob.a and -Wl,--wrap=malloc,--wrap=realloc,--wrap=free -pthread. */
 #include "mrjob.h"
@@ -182,8 +182,8 @@ static void count_both(uint32_t status, const char *name)
 /* Each bound just past, and each at once with all that are tested after it. */
 static void test_statuses(void)
 {
-    make(), given.wave.centres = 9, count_both(MRJOB_BAD_RACKS, "9 data centres");
-    make(), given.wave.racks = 33, count_both(MRJOB_BAD_RACKS, "33 racks");
+    make(), given.wave.centres = 257, count_both(MRJOB_BAD_RACKS, "257 data centres");
+    make(), given.wave.racks = 4097, count_both(MRJOB_BAD_RACKS, "4,097 racks");
     make(), given.centre_of[1] = 1, count_both(MRJOB_BAD_RACKS, "a rack in no data centre");
     given.network = 7, given.starts_len = 1, given.starts[0] = 7, given.holders[0] = 7, given.barred[0].worker = 7;
     given.splits[0].bytes = UINT64_MAX, given.workers[0].rack = 7;
@@ -195,7 +195,7 @@ static void test_statuses(void)
     given.holders[0] = 0, count_both(MRJOB_BAD_LENGTH, "of many faults that of the lengths");
     given.starts_len = 2;
     count(answers(PLAN_RACKS, MRJOB_BAD_NETWORK) && answers(CHECK, MRJOB_BAD_STARTS), "and then the last ones");
-    make(), given.wave.workers_len = 257, count_both(MRJOB_BAD_WORKERS, "257 workers");
+    make(), given.wave.workers_len = 32769, count_both(MRJOB_BAD_WORKERS, "32,769 workers");
     make(), given.workers[1].rack = 2, count_both(MRJOB_BAD_WORKERS, "a worker in no rack");
     make(), given.splits[1].bytes = MRJOB_MAX_BYTES + 1, count_both(MRJOB_BAD_SPLITS, "a split of too many bytes");
     make(), given.wave.holders_len = 9, given.splits[0].holder_count = 9;
@@ -221,7 +221,7 @@ static void count_place(uint32_t status, size_t place, const char *name)
 
 static void test_places(void)
 {
-    make(), given.wave.centres = 9, count_place(MRJOB_BAD_RACKS, MRJOB_NOWHERE, "9 data centres are nowhere");
+    make(), given.wave.centres = 257, count_place(MRJOB_BAD_RACKS, MRJOB_NOWHERE, "257 data centres are nowhere");
     make(), given.centre_of[1] = 1, count_place(MRJOB_BAD_RACKS, 1, "the place of a rack in no data centre");
     given.centre_of[0] = 1, count_place(MRJOB_BAD_RACKS, 0, "the first of two racks");
     make(), given.workers[1].rack = 2, count_place(MRJOB_BAD_WORKERS, 1, "the place of a worker in no rack");
@@ -253,7 +253,7 @@ static void test_texts(void)
     }
     count(!strcmp(mrjob_status_text(MRJOB_NO_MEMORY + 1), "no status"), "a number that is no status");
     count(!strcmp(mrjob_status_text(MRJOB_BAD_NETWORK),
-                  "no such network, or more than 1,024 splits for the direct one"),
+                  "no such network, or too many splits or workers for the direct one"),
           "the words of a network that is none");
 }
 
@@ -462,6 +462,64 @@ static void *take_most(void *output)
     return output;
 }
 
+/* ---- the most workers ---- */
+
+enum { MOST = MRJOB_MAX_WORKERS };
+
+static struct mrjob_worker crowd[MOST + 1];
+static uint16_t centres_of_most[MRJOB_MAX_RACKS], holders_of_most[MOST], starts_of_most[MOST];
+static struct mrjob_split splits_of_most[MOST];
+static struct mrjob_pair pairs_of_most[MOST];
+static uint64_t split_prices_of_most[MOST], worker_prices_of_most[MOST];
+
+/* So many workers of one slot, spread over the most racks and data centres; each holds a split of one byte, on which
+ * it may not start. */
+static struct mrjob_wave wave_of_workers(size_t workers)
+{
+    return (struct mrjob_wave){MRJOB_MAX_CENTRES, centres_of_most, MRJOB_MAX_RACKS,   crowd,         workers,
+                               splits_of_most,    workers,         holders_of_most, workers, pairs_of_most, workers};
+}
+
+static uint32_t plan_of_workers(size_t workers, uint32_t network, struct mrjob_total *total)
+{
+    const struct mrjob_wave wave = wave_of_workers(workers);
+    return mrjob_plan(&wave, network, starts_of_most, workers, split_prices_of_most, workers, worker_prices_of_most,
+                      workers, total);
+}
+
+static uint32_t check_of_workers(size_t workers, struct mrjob_verdict *verdict)
+{
+    const struct mrjob_wave wave = wave_of_workers(workers);
+    return mrjob_check(&wave, starts_of_most, workers, split_prices_of_most, workers, worker_prices_of_most, workers,
+                       verdict);
+}
+
+/* The last that is taken, and the first that is refused. Each split starts beside its holder, two steps away. */
+static void *take_most_workers(void *output)
+{
+    for (size_t rack = 0; rack < MRJOB_MAX_RACKS; rack++) centres_of_most[rack] = (uint16_t)(rack % MRJOB_MAX_CENTRES);
+    for (size_t w = 0; w < MOST; w++) {
+        crowd[w] = (struct mrjob_worker){(uint16_t)(w % MRJOB_MAX_RACKS), 1, 1};
+        splits_of_most[w] = (struct mrjob_split){1, (uint32_t)w, 1, 1};
+        holders_of_most[w] = (uint16_t)w;
+        pairs_of_most[w] = (struct mrjob_pair){(uint16_t)w, (uint16_t)w};
+    }
+    struct mrjob_total total;
+    struct mrjob_verdict verdict;
+    count(plan_of_workers(MOST, MRJOB_RACKS, &total) == MRJOB_OK && total.count == MOST && total.cost == 2 * MOST,
+          "32,768 workers, 4,096 racks and 256 data centres are planned");
+    count(check_of_workers(MOST, &verdict) == MRJOB_OK && verdict.count == MOST && verdict.cost == 2 * MOST,
+          "and checked");
+    worker_prices_of_most[MOST - 1] = UINT64_MAX;
+    count(check_of_workers(MOST, &verdict) == MRJOB_REFUSED && verdict.condition == 4 && verdict.split == MRJOB_NONE &&
+              verdict.worker == MOST - 1,
+          "a price of the last worker is refused by its number");
+    const size_t direct = MRJOB_MAX_DIRECT_WORKERS;
+    count(plan_of_workers(direct + 1, MRJOB_DIRECT, &total) == MRJOB_BAD_NETWORK, "257 workers for the direct network");
+    count(plan_of_workers(direct + 1, MRJOB_RACKS, &total) == MRJOB_OK, "257 workers over racks");
+    return output;
+}
+
 int main(void)
 {
     count(mrjob_version() == MRJOB_VERSION, "the library has the header's version");
@@ -475,6 +533,7 @@ int main(void)
     }
     test_threads();
     count_threads(1, take_most, "the most is taken in a small stack");
+    count_threads(1, take_most_workers, "the most workers are taken in a small stack");
     printf("%d passed, %d failed\n", passed, failed);
     return failed != 0;
 }

@@ -155,8 +155,9 @@ def certified(count, program):
         wanted = (path.with_suffix(".out").read_bytes(), "", int(path.with_suffix(".status").read_text()))
         count.expect(f"certify.py < examples/{path.name}", script("certify.py", given=path.read_bytes()), wanted)
     groups = {f"{some} {kind} texts": made(kind, some) for kind, some in CERTIFIED.items()}
-    groups["texts at the limits"] = [make_texts.limit(kind, over) for kind in make_texts.MOST for over in (0, 1)]
-    groups["texts at the limits"] += [make_texts.limit("split", over, 3) for over in (0, 1)]
+    groups["texts at the limits"] = [
+        make_texts.limit(kind, over, version) for version in (2, 3) for kind in make_texts.MOST for over in (0, 1)
+    ]
     groups["all examples"] = [path.read_bytes() for path in sorted(EXAMPLES.glob("*.txt"))]
     for name, texts in groups.items():
         with ThreadPoolExecutor() as pool:

@@ -4,10 +4,10 @@ reference_run.py say of them.
 
     differential.py PROGRAM..
 
-The texts are the same in each run: those of `make_texts.py KIND SEED` for the seeds from 1, each front of two
-examples, a script with a death more at each of its places, problems of up to 1,024 splits, and texts at the limits
-on counts and bytes. A check's answer has to be the reference's. A plan with its prices, over either network, has to
-start as many splits at as little cost as any choice of starts, and to be certified by the reference; without prices
+The texts are the same in each run: what `make_texts.py KIND SEED` makes of the seeds from 1, each front of two examples,
+a script with a death more at each of its places, problems of up to 4,000 splits or 32,768 workers, and texts at the
+limits on counts and bytes. A check's answer has to be the reference's. A plan with its prices, over either network, has
+to start as many splits at as little cost as any choice of starts, and to be certified by the reference; without prices
 its lines are the same up to them. A script's report is followed command by command. A job's answer has to be the
 reference's, and the end of the report of a script that brings it as far; what a run says was done is followed event by
 event. The last line counts the groups of texts that agree.
@@ -35,6 +35,7 @@ RECORDED = {"job": 300}
 MANY_SPLITS = [129, 200, 256, 257, 512, 1000, 1001, *range(1010, 1025)]
 # And more than a direct network is built for, in texts of version 3.
 MORE_SPLITS = [1025, 1500, 4000]
+MORE_WORKERS = [257, 300, 1000, 4097, 32_768]
 # More than there are processors, since a job's threads nap where they have nothing to do.
 PROGRAMS_AT_ONCE = 4 * os.cpu_count()
 EXAMPLES = os.path.join(os.path.dirname(os.path.abspath(__file__)), "..", "examples")
@@ -53,6 +54,7 @@ def groups():
         yield kind, wrong_plan, made(kind, count)
     yield "many", wrong_many, [(f"a problem of {splits} splits", many(splits)) for splits in MANY_SPLITS]
     yield "more", wrong_more, [(f"a problem of {splits} splits", many(splits, 3)) for splits in MORE_SPLITS]
+    yield "wide", wrong_more, [(f"a problem of {workers} workers", wide(workers)) for workers in MORE_WORKERS]
     for kind, count in PLAYED.items():
         yield kind, wrong_play, made(kind, count)
     for kind, count in RUN.items():
@@ -66,6 +68,7 @@ def groups():
     yield "full", wrong_index, [(f"a job of {over} bytes past the most", full_of_bytes(over)) for over in (0, 1)]
     for most, wrong, make in (
         (make_texts.MOST, wrong_check, make_texts.limit),
+        (make_texts.MOST_OF_3, wrong_check, lambda kind, over: make_texts.limit(kind, over, 3)),
         (make_texts.MOST_OF_SCRIPTS, wrong_play, make_texts.limit_of_scripts),
     ):
         yield "limit", wrong, [
@@ -84,6 +87,22 @@ def many(splits, version=2):
         lines.append(" ".join([f"split s{s} {rnd.randint(1, 9999)}", *holders]))
     lines += [f"busy s{s}" for s in range(splits) if rnd.random() < 0.1]
     lines += [f"barred s{s} {rnd.choice(workers)}" for s in range(splits) if rnd.random() < 0.1]
+    return make_texts.text_of([*lines, "end"])
+
+
+def wide(workers):
+    """A problem of so many workers in up to the most racks and data centres, of which five have a slot."""
+    rnd, centres, racks = random.Random(workers), min(workers // 40, 256), min(workers // 8, 4096)
+    slots = dict.fromkeys(rnd.sample(range(workers), 5), 1)
+    lines = ["problem 3", *(f"centre c{c}" for c in range(centres))]
+    lines += [f"rack r{r} c{rnd.randrange(centres)}" for r in range(racks)]
+    lines += [f"worker w{w} r{rnd.randrange(racks)} {slots.get(w, 0)}" for w in range(workers)]
+    near = [*slots, *rnd.sample(range(workers), 8)]
+    for s in range(8):
+        held = rnd.sample(near, rnd.randint(0, 3))
+        lines.append(" ".join([f"split s{s} {rnd.randint(1, 9999)}", *(f"w{w}" for w in held)]))
+    lines += [f"barred s{s} w{rnd.choice([*slots])}" for s in range(8) if rnd.random() < 0.5]
+    lines += [f"dead w{w}" for w in rnd.sample(range(workers), 3)]
     return make_texts.text_of([*lines, "end"])
 
 

@@ -79,15 +79,15 @@ def refusals(count):
     """What is past a limit is told, and nothing is written."""
     for listing, words, says in (
         ("nothing\n", [], "no block is listed"),
-        (listing_of(1025, 2), [], "there are 1025 splits"),
-        (listing_of(40, 40), [], "there are 33 racks"),
+        (listing_of(131_073, 2), [], "there are 131073 splits"),
+        (listing_of(4100, 4100), ["--take", "4095"], "there are 4097 racks"),
         ((SAMPLES / "hdfs_2.txt").read_text(), ["--centres"], "the rack /default-rack has no data centre"),
         ("/f 1 bytes, 1 block(s): OK\n0. blk_1_1 len=1 repl=1 [x y]\n", [], "`x y` is no replica"),
         (listing_of(2, 2), ["--skip", "-1"], "--skip -1: there may be 0 or more"),
         (listing_of(2, 2), ["--skip", "2"], "--skip 2: there are 2 blocks"),
         (listing_of(2, 2), ["--take", "0"], "--take 0: there may be 1 or more"),
     ):
-        said, told, status = problem(listing, *words, *(["--take", "31"] if "33" in says else []))
+        said, told, status = problem(listing, *words)
         count.holds(says, (said, status) == ("", 1) and says in told[-1], (said, told))
 
 
@@ -181,6 +181,24 @@ def sizes(count):
     count.holds("a block of more than 8 GiB", is_so, (said, told))
 
 
+def great(count, programs):
+    """A listing of a great cluster, where each node has slots for the blocks that it holds: all start where they lie."""
+    blocks, nodes = 102_400, 25_600
+    lines = [f"/data/file {blocks << 27} bytes, {blocks} block(s):  OK"]
+    lines += [
+        f"{it}. BP-1-10.0.0.1-1:blk_{it}_1 len=134217728 repl=1 [/c{rack % 4}/r{rack}/h{node}:9866]"
+        for it, node, rack in ((it, it % nodes, it % nodes // 16) for it in range(blocks))
+    ]
+    with tempfile.TemporaryDirectory() as room:
+        slots = Path(room) / "slots"
+        slots.write_text("".join(f"h{node} 4\n" for node in range(nodes)))
+        said, told, status = problem("\n".join([*lines, ""]), slots=slots)
+    count.holds("a great cluster", (told, status) == ([], 0), (told, status))
+    for program in programs:
+        ran = subprocess.run([program, "plan"], input=said, capture_output=True, text=True)
+        count.holds(f"a great cluster, planned by {program}", ran.stdout.startswith("wave 102400 0\n"), ran.stdout[:80])
+
+
 def any_bytes(count):
     """Whatever bytes are given, in the listing or in the slots, there is a problem or one line, and no traceback."""
     rnd = random.Random(51)
@@ -222,16 +240,17 @@ def parts(count):
     count.holds("--rarest", found == ["blk_1", "blk_4", "blk_2", "blk_3"], said)
     with tempfile.TemporaryDirectory() as room:
         slots, names = Path(room) / "slots", Path(room) / "names"
-        slots.write_text("node=one 17 a+b\nnode_one 1 a=b\n")
+        slots.write_text("node=one 256 a+b\nnode_one 1 a=b\n")
         said, told, _ = problem(listing_of(1, 1), "--names", str(names), slots=slots)
         count.holds("racks that would be called alike", "rack /a-b site\nrack /a-b-2 site\n" in said, said)
-        count.holds("more slots than a worker may have", "worker node-one /a-b 16" in said and "17" not in said, said)
+        count.holds("more slots than a worker may have", "worker node-one /a-b 255" in said and "256" not in said, said)
         count.holds("what names stand for", "node-one node node=one\n" in names.read_text(), names.read_text())
 
 
 def main():
     count = Count()
     samples(count, sys.argv[1:])
+    great(count, sys.argv[1:])
     refusals(count)
     slots_refused(count)
     of_blocks(count)

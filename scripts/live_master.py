@@ -110,6 +110,23 @@ def worked(count, program, room):
                  ["index 3", "word cat d", "word dog e", "word the d e"])
 
 
+def at_once(count, program, room):
+    """More lines than a pipe holds, and one that a pipe does not hold."""
+    lines = [it for split in SPLITS for it in (f"add {split} c", f"lose {split} c") * 3000]
+    lines += [" ".join(["join", *"x" * 50_000]), "wave"]
+
+    async def whole():
+        async with await AsyncMaster.open(HEAD, program=program) as master:
+            return await master.tell_all(lines)
+
+    with Master(HEAD, program=program) as master:
+        got = master.tell_all(lines)
+    count.expect("many lines at once are answered each", (len(got), got == asyncio.run(whole())), (len(lines), True))
+    accepted = [[f"accepted {it}"] for it in range(1, len(lines) - 1)]
+    ends = [[it.partition(" ")[0] for it in answer] for answer in got[-2:]]
+    count.expect("in their order", (got[:-2] == accepted, ends), (True, [["fault"], ["accepted", "wave", "start", "start"]]))
+
+
 def logged(turns):
     """Those of which a log has the line."""
     return [turn for turn in turns if turn[0].line not in QUERIES]
@@ -317,7 +334,7 @@ def go_home(room):
 def main(programs):
     counts = [Count(os.path.abspath(it)) for it in programs]
     for count in counts:
-        for part in (worked, awaiting, own_plans, refused, recovered, threads, simulated, documents, compiled):
+        for part in (worked, at_once, awaiting, own_plans, refused, recovered, threads, simulated, documents, compiled):
             with tempfile.TemporaryDirectory() as room:
                 part(count, count.program, Path(room))
     passed, failed = sum(it.passed for it in counts), sum(it.failed for it in counts)

@@ -13,8 +13,9 @@ sys.dont_write_bytecode = True
 import crates  # (it ends a script quietly where head does)
 
 MOST = {"centre": 8, "rack": 32, "worker": 256, "split": 1024}
-MOST_SPLITS_OF_3 = 131_072
-MOST_OF_SCRIPTS = {"document": 65_536, "command": 65_536}
+# Of a problem of version 3.
+MOST_OF_3 = {"centre": 256, "rack": 4096, "worker": 32_768, "split": 131_072}
+MOST_OF_SCRIPTS = {**MOST, "document": 65_536, "command": 65_536}
 KEYWORDS = ["problem", "script", "job", "centre", "rack", "worker", "split", "barred", "dead", "busy", "plan", "start"]
 KEYWORDS += ["price", "end", "parts", "target", "silence", "doc", "begin", "wave", "done", "fail", "withdraw", "die"]
 KEYWORDS += ["join", "add", "lose", "sweep", "reduce", "copies", "backup"]
@@ -383,8 +384,8 @@ def spoiled(rnd, lines):
 def limit(kind, over, version=2):
     """A text with so many past the most data centres, racks, workers or splits. In version 3 splits have the longest
     names, so that the text of the most splits has more bytes than any other text may have."""
-    most = MOST_SPLITS_OF_3 if (kind, version) == ("split", 3) else MOST[kind]
-    count = {"centre": 1, "rack": 1, "worker": 1, "split": 0, kind: most + over}
+    most = MOST_OF_3 if version == 3 else MOST
+    count = {"centre": 1, "rack": 1, "worker": 1, "split": 0, kind: most[kind] + over}
     lines = [f"problem {version}", *(f"centre c{i}" for i in range(count["centre"]))]
     lines += [f"rack r{i} c0" for i in range(count["rack"])]
     lines += [f"worker w{i} r0 16" for i in range(count["worker"])]
@@ -395,10 +396,13 @@ def limit(kind, over, version=2):
 
 
 def limit_of_scripts(kind, over):
-    """A script with so many past the most documents or commands."""
-    count = {"document": 1, "command": 1, kind: MOST_OF_SCRIPTS[kind] + over}
-    lines = ["script 1", "rack r", "worker a r 1", "split s 1 a"]
-    lines += [f"doc d{i} s word" for i in range(count["document"])] + ["begin"]
+    """A script of version 3 with so many past the most of what a head declares, or past the most commands."""
+    count = {**dict.fromkeys(MOST_OF_SCRIPTS, 1), kind: MOST_OF_SCRIPTS[kind] + over}
+    lines = ["script 3", *(f"centre c{i}" for i in range(count["centre"]))]
+    lines += [f"rack r{i} c0" for i in range(count["rack"])]
+    lines += [f"worker w{i} r0 1" for i in range(count["worker"])]
+    lines += [f"split s{i} 1 w0" for i in range(count["split"])]
+    lines += [f"doc d{i} s0 word" for i in range(count["document"])] + ["begin"]
     return text_of([*lines, *["reduce"] * count["command"], "end"])
 
 

@@ -77,13 +77,13 @@ FIT = {
 }
 # What is changed of a wave of arrays, the status that a plan and a check answer, and its words.
 UNFIT_WAVES = [
-    ({"centres": 9}, Status.BAD_RACKS, "9 data centres, at most 8"),
-    ({"centres": 2**64}, Status.BAD_RACKS, "18,446,744,073,709,551,616 data centres, at most 8"),
+    ({"centres": 257}, Status.BAD_RACKS, "257 data centres, at most 256"),
+    ({"centres": 2**64}, Status.BAD_RACKS, "18,446,744,073,709,551,616 data centres, at most 256"),
     ({"centres": -1}, Status.BAD_RACKS, "-1 data centres, at least 0"),
-    ({"centre_of": [0] * 33}, Status.BAD_RACKS, "33 racks, at most 32"),
+    ({"centre_of": [0] * 4097}, Status.BAD_RACKS, "4,097 racks, at most 4,096"),
     ({"centre_of": [0, 1]}, Status.BAD_RACKS, "rack 1: there is no data centre 1 among 1"),
     ({"centre_of": [-1]}, Status.BAD_RACKS, "rack 0: there is no data centre -1 among 1"),
-    ({"workers": [(0, 1, 1)] * 257}, Status.BAD_WORKERS, "257 workers, at most 256"),
+    ({"workers": [(0, 1, 1)] * 32_769}, Status.BAD_WORKERS, "32,769 workers, at most 32,768"),
     ({"workers": [(0, 1, 1), (1, 1, 1)]}, Status.BAD_WORKERS, "worker 1: there is no rack 1 among 1"),
     ({"workers": [(2**16, 1, 1)]}, Status.BAD_WORKERS, "worker 0: there is no rack 65,536 among 1"),
     ({"workers": [(0, 256, 1)]}, Status.BAD_WORKERS, "worker 0: 256 free slots, at most 255"),
@@ -113,20 +113,26 @@ UNFIT_WAVES = [
 WAVE = arrays.Wave(**FIT)
 
 
-def wave_of(splits):
-    """A wave of so many splits of the most bytes, with as many as there may be of all else."""
-    split = (2**33, 0, 8, 2**16)
-    return arrays.Wave(8, [7] * 32, [(31, 255, 2**8)] * 256, [split] * splits, range(8), [(splits - 1, 255)])
+def wave_of(splits, workers):
+    """A wave of so many splits of the most bytes on so many workers, with as many as there may be of all else."""
+    racks, stands, split = [255] * 4096, [(4095, 255, 2**8)] * workers, (2**33, 0, 8, 2**16)
+    return arrays.Wave(256, racks, stands, [split] * splits, range(8), [(splits - 1, workers - 1)])
 
 
 ONE = (Cluster([Worker(0)]), [Split(10, [0])])
 ZERO = Prices([0], [0])
 UNFIT_CALLS = [
     (lambda: arrays.plan(WAVE, 2), Status.BAD_NETWORK, "network 2 is neither 0, over racks, nor 1, direct"),
-    (lambda: arrays.plan(wave_of(1025), 2), Status.BAD_NETWORK, "network 2 is neither 0, over racks, nor 1, direct"),
-    (lambda: arrays.plan(wave_of(1025), 1), Status.BAD_NETWORK, "1,025 splits for the direct network, at most 1,024"),
-    (lambda: arrays.plan(wave_of(65_535), 1), Status.BAD_NETWORK,
+    (lambda: arrays.plan(wave_of(1025, 257), 2), Status.BAD_NETWORK,
+     "network 2 is neither 0, over racks, nor 1, direct"),
+    (lambda: arrays.plan(wave_of(1025, 257), 1), Status.BAD_NETWORK,
+     "1,025 splits for the direct network, at most 1,024"),
+    (lambda: arrays.plan(wave_of(65_535, 256), 1), Status.BAD_NETWORK,
      "65,535 splits for the direct network, at most 1,024"),
+    (lambda: arrays.plan(wave_of(1024, 257), 1), Status.BAD_NETWORK,
+     "257 workers for the direct network, at most 256"),
+    (lambda: arrays.plan(wave_of(1, 32_768), 1), Status.BAD_NETWORK,
+     "32,768 workers for the direct network, at most 256"),
     (lambda: plan(CLUSTER, [Split(1)] * 1025, Network.DIRECT), Status.BAD_NETWORK,
      "1,025 splits for the direct network, at most 1,024"),
     (lambda: arrays.check(WAVE, [1], [0], [0]), Status.BAD_STARTS, "split 0: there is no worker 1 among 1"),
@@ -174,19 +180,21 @@ def statuses():
     pairs += [(refused(call, Unfit), Unfit(status, words)) for call, status, words in UNFIT_CALLS]
     told = re.findall(r"^#define MRJOB_(MAX_\w+|NONE|VERSION) (\d+)", (ROOT / "include/mrjob.h").read_text(), re.M)
     pairs += [(getattr(library, name), int(value)) for name, value in told]
-    return differences([(str(said), str(wanted)) for said, wanted in pairs] + pairs) and len(told) == 10
+    return differences([(str(said), str(wanted)) for said, wanted in pairs] + pairs) and len(told) == 11
 
 
 def bounds():
     """The most of all is planned: the holders start what they have slots for, and the other workers in their rack the
     rest, two steps away."""
     pairs = []
-    for splits, network in ((65_535, Network.RACKS), (1024, Network.RACKS), (1024, Network.DIRECT)):
-        wave = wave_of(splits)
+    sizes = [(65_535, 32_768, Network.RACKS), (65_535, 256, Network.RACKS)]
+    sizes += [(1024, 256, Network.RACKS), (1024, 256, Network.DIRECT)]
+    for splits, workers, network in sizes:
+        wave = wave_of(splits, workers)
         best = arrays.plan(wave, network)
-        started = min(splits, 256 * 255)
+        started = min(splits, workers * 255)
         wanted = (started, max(0, started - 8 * 255) * 2 * 2**33)
-        pairs += [((best.count, best.cost), wanted), (best.starts[splits - 1] == 255, False)]
+        pairs += [((best.count, best.cost), wanted), (best.starts[splits - 1] == workers - 1, False)]
         pairs += [(arrays.check(wave, best.starts, best.split_prices, best.worker_prices).condition, None)]
         unpriced = array("Q", best.split_prices)
         unpriced[-1] = 2**64 - 1

@@ -20,7 +20,7 @@ MAX_COMMANDS = 65_536
 MOST = {"centre": 8, "rack": 32, "worker": 256, "split": 1024, "doc": 65_536}
 MOST_WORKERS_OF_A_JOB = 32
 # Of a text of version 3 to plan from or to check.
-MOST_SPLITS = 131_072
+MOST_OF_3 = {"centre": 256, "rack": 4096, "worker": 32_768, "split": 131_072}
 FIRST = {"check": b"problem", "plan": b"problem", "play": b"script", "run": b"job"}
 # The places after a keyword: a name, a number, any count of names or of numbers, or a name and a free text. A rack has
 # its centre from version 2 on.
@@ -132,8 +132,8 @@ class Given:
         return any(name in names for names in self.numbers.values())
 
     def most(self, kind):
-        if kind == "split" and self.version == 3 and self.command in ("plan", "check"):
-            return MOST_SPLITS
+        if self.version == 3 and self.command in ("plan", "check"):
+            return MOST_OF_3[kind]
         return MOST_WORKERS_OF_A_JOB if (kind, self.command) == ("worker", "run") else MOST[kind]
 
     def setting(self, name, otherwise):
