@@ -1,6 +1,6 @@
 -- Under which nodes workers are barred.
 use Rattle.std.proofs.Common.{◌≡◌, ℕ, ◌+◌, ◌<◌, Bool, true, false, cond, refl, ap, ◌∙◌}
-use Rattle.std.proofs.Common.{sym, ◌⊎◌, List, [], get_or, Contains, subst, inl, inr, ◌↔◌, arith, length, slice_index}
+use Rattle.std.proofs.Common.{sym, ◌⊎◌, List, [], get_or, subst, inl, inr, ◌↔◌, arith, length, slice_index}
 use Rattle.std.proofs.lemmas.List.{get_or_default}
 use Rattle.std.proofs.lemmas.List.Folds.{list_any_at, Any-from_list_any}
 use Rattle.std.specs.Prelude.{◌≢◌, ◌==◌, IfSome, Option, Some, None, slice_index_or}
@@ -65,10 +65,6 @@ at_in_row row w there =
       any.2,
       get_or_default row any.0 0 any.1 any.2 ∙ any.3 ∙ eqb-true any.1 w any.4,
     )
-
-pub contains_in_row : (row : List ℕ) (w : ℕ) → IsIn row w → Contains row w
-contains_in_row row w there = (let at = at_in_row row w there in
-    (at.0, at.1, get_or_default row at.0 w 0 at.1 ∙ at.2))
 
 -- the worker at a place of a row is the tree's and stands under the node
 abbrev pub IsBarAt : Wave → TreeNode → List ℕ → ℕ → Type 0

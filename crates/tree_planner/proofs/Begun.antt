@@ -1,11 +1,13 @@
 -- A search that has not come to a node yet, and what is left of one that forgets the nodes that it came to.
 use Rattle.std.proofs.Common.{◌≡◌, ℕ, ◌+◌, ◌-◌, ◌*◌, ◌^◌, ◌<◌, ◌≤◌, ◌⊎◌, ◌∙◌, length, subst, refl, sym, ap}
-use Rattle.std.proofs.Common.{List, get_or, inl, inr, arith}
+use Rattle.std.proofs.Common.{inl, inr, arith}
 use Rattle.std.specs.Prelude.{◌≢◌}
 use Rattle.std.proofs.lemmas.Bool.{cases_lt}
 use Rattle.rack_tree.specs.Tree.{Tree}
 use Rattle.wave_problem.specs.Wave.{reward}
 use Rattle.tree_flow.specs.declared.nodes.TreeNode.{TreeNode}
+use Rattle.tree_flow.specs.declared.node_table.NodeTable.{NodeTable}
+use Rattle.tree_flow.specs.Table.{at_or}
 use Rattle.tree_flow.proofs.Moved.{same_or_not}
 use Rattle.tree_planner.specs.declared.search.Goal.TheVariants.{Wait}
 use Rattle.tree_planner.specs.declared.search.Ground.{Ground}
@@ -13,12 +15,12 @@ use Rattle.tree_planner.specs.declared.search.Search.{Search}
 use Rattle.tree_planner.specs.Searching.{far_at, order_at, place_at, reached_at, wave_of, HasReached}
 use Rattle.tree_planner.specs.Searching.{HasTables, IsBlank, IsCovered, IsGround, IsSearching}
 use Rattle.tree_planner.specs.declared.covers.Cover.{Cover}
-use Rattle.tree_planner.specs.Covers.{no_cover}
+use Rattle.tree_planner.specs.Covers.{no_cover, IsOverInner}
 
 pub begun : (g : Ground) → IsGround g → (search : Search) → IsBlank (wave_of g).tree (length g.nodes.now) search
     → (split least : ℕ) → split < length (wave_of g).splits → least ≤ reward (wave_of g)
-    → (covers : List Cover) → length covers ≡ length (wave_of g).tree.centre_of
-    → ((r : ℕ) → get_or covers r no_cover ≡ no_cover)
+    → (covers : NodeTable Cover) → IsOverInner (wave_of g).tree covers
+    → ((u : TreeNode) → at_or covers no_cover u ≡ no_cover)
     → IsSearching g (record search {
       split = split;
       least = least;
@@ -70,7 +72,7 @@ begun g ground search blank split least known most covers over uncovered =
       goal = refl;
       bottom = λ v some. (let far = blank.far v in omega arith);
       shut = λ v some. absurd (let none = blank.none v in omega arith);
-      covered = λ r. subst (λ cover. IsCovered g begins cover r) (sym (uncovered r)) (record {
+      covered = λ u. subst (λ cover. IsCovered g begins cover u) (sym (uncovered u)) (record {
         known = omega arith;
         near = λ v left. omega arith;
       });

@@ -1,5 +1,5 @@
 -- The ends under a node that has bars are those under the nodes that hang from it.
-use Rattle.std.proofs.Common.{◌≡◌, ℕ, ◌<◌, ◌↔◌, true, List, length, get_or, Contains}
+use Rattle.std.proofs.Common.{◌≡◌, ℕ, ◌<◌, ◌↔◌, ◌⊎◌, true, List, length, get_or, Contains}
 use Rattle.std.proofs.Common.{sym, ap, ◌∙◌, subst, inl, inr, arith}
 use Rattle.std.specs.Prelude.{◌≢◌}
 use Rattle.std.proofs.lemmas.List.{get_or_default}
@@ -61,6 +61,32 @@ module _ (wave : Wave) (known : IsKnown wave) (top : TreeNode) where
 -- an end at one of the nodes that hang from another's
 abbrev pub end_below : End → List TreeNode → ℕ → End
 end_below top below k = record { node = get_or below k (Worker 0); level = top.level }
+
+-- the end is at or under one of these nodes, which has bars
+abbrev pub IsPart : Wave → ℕ → End → List TreeNode → End → ℕ → Type 0
+IsPart wave s top below e k = HasBarUnder wave s (get_or below k (Worker 0)) × IsTopEnd wave s (end_below top below k) e
+
+-- a node's ends are added if it has bars, else nothing
+pub part_more : {N O B T : Type 0} → B → (N ↔ (O ⊎ T)) → N ↔ (O ⊎ (B × T))
+part_more b both = (
+  λ n. elim (both.0 n) [
+    | inl o ↦ inl o
+    | inr t ↦ inr (b, t)
+  ],
+  λ h. elim h [
+    | inl o ↦ both.1 (inl o)
+    | inr p ↦ both.1 (inr p.1)
+  ],
+)
+
+pub part_none : {O B T : Type 0} → (B → ⊥) → O ↔ (O ⊎ (B × T))
+part_none free = (
+  λ o. inl o,
+  λ h. elim h [
+    | inl o ↦ o
+    | inr p ↦ absurd (free p.0)
+  ],
+)
 
 -- of a node with bars, with the list of the nodes that hang from it
 module _ (wave : Wave) (s : ℕ) (top : End) (below : List TreeNode)

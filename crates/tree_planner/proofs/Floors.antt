@@ -126,7 +126,7 @@ module _ (old new : Search) (rest : AreFloorsNew old new) where
     goal = ends_kept old raised raised_nearer (λ u x b. b) (λ u some. some) g old.bound old.goal s.goal;
     bottom = s.bottom;
     shut = s.shut;
-    covered = λ r. cover_kept old raised raised_nearer g (cover_at old r) r (s.covered r);
+    covered = λ u. cover_kept old raised raised_nearer g (cover_at old u) u (s.covered u);
   })
 
 -- the search has looked from as many nodes

@@ -1,8 +1,8 @@
 -- What stays where nodes come nearer.
 use Rattle.std.proofs.Common.{◌≡◌, ℕ, ◌+◌, ◌^◌, ◌<◌, ◌≤◌, refl, sym, ap, ◌∙◌, subst, inl, inr, arith, length}
-use Rattle.std.proofs.Common.{◌/◌, List, count_by, get_or, get_or-set_same, get_or-set_other, length-set, slice_set}
+use Rattle.std.proofs.Common.{◌/◌, count_by, get_or, get_or-set_same, get_or-set_other, length-set}
 use Rattle.std.specs.Prelude.{◌≢◌, nat_lt}
-use Rattle.std.proofs.lemmas.Bool.{cases_eq, cases_lt, le-ltb, lt-ltb, ltb-true}
+use Rattle.std.proofs.lemmas.Bool.{cases_lt, le-ltb, lt-ltb, ltb-true}
 use Rattle.rack_tree.specs.Tree.{Tree}
 use Rattle.tree_flow.specs.declared.nodes.TreeNode.TheVariants.{Cluster}
 use Rattle.tree_planner.specs.declared.reached.Reached.{Reached}
@@ -29,7 +29,7 @@ use Rattle.tree_planner.specs.declared.covers.Cover.{Cover}
 use Rattle.tree_planner.specs.Covers.{no_cover}
 use Rattle.tree_planner.specs.Searching.{HasStarted, IsStartedAt, Improves, IsAt, IsBefore, IsDown, IsLastOne}
 use Rattle.tree_planner.specs.Searching.{IsNearer, IsNearest, IsSearching, LeadsTo, Settles}
-use Rattle.tree_flow.specs.Table.{at_or, IsOver}
+use Rattle.tree_flow.specs.Table.{at_or, IsOver, IsSized}
 use Rattle.tree_flow.proofs.Moved.{same_or_not}
 
 pub improves_refl : (s : Search) → Improves s s
@@ -156,8 +156,8 @@ module _ (old new : Search) (i : IsNearer old new) where
       omega arith)
 
   -- a cover holds on
-  pub cover_kept : (g : Ground) (cover : Cover) (r : ℕ) → IsCovered g old cover r → IsCovered g new cover r
-  cover_kept g cover r c = record {
+  pub cover_kept : (g : Ground) (cover : Cover) (u : TreeNode) → IsCovered g old cover u → IsCovered g new cover u
+  cover_kept g cover u c = record {
     known = c.known;
     near = λ v left.
         (let before = c.near v left in let bound = i.bound in let far = i.far v in omega arith);
@@ -438,7 +438,7 @@ module _ (old : Search) (far : NodeTable ℕ) (how : NodeTable Step) (node : Tre
     goal = ends;
     bottom = bottom;
     shut = s.shut;
-    covered = λ r. cover_kept old reached reach_nearer g (cover_at old r) r (s.covered r);
+    covered = λ u. cover_kept old reached reach_nearer g (cover_at old u) u (s.covered u);
   }
 
   far_other : (v : TreeNode) → v ≢ node → far_at reached v ≡ far_at old v
@@ -522,7 +522,7 @@ module _ (old : Search) (goal : Goal) (distance : ℕ) (bound : distance < old.b
     goal = ends_kept old arrived arrive_nearer (λ u x b. b) (λ u some. some) g distance goal ends;
     bottom = λ v some. (let past = s.bottom v some in omega arith);
     shut = s.shut;
-    covered = λ r. cover_kept old arrived arrive_nearer g (cover_at old r) r (s.covered r);
+    covered = λ u. cover_kept old arrived arrive_nearer g (cover_at old u) u (s.covered u);
   }
 
 -- a node that is looked from next
@@ -624,7 +624,7 @@ module _ (g : Ground) (old : Search) (order : NodeTable ℕ) (c : TreeNode) (s :
           ])
       | inr n ↦ s.shut v (let same = others v n in omega arith)
     ];
-    covered = λ r. cover_kept old settled settle_nearer g (cover_at old r) r (s.covered r);
+    covered = λ u. cover_kept old settled settle_nearer g (cover_at old u) u (s.covered u);
   }
 
   -- at the end of the search
@@ -668,9 +668,11 @@ module _ (g : Ground) (old : Search) (order : NodeTable ℕ) (c : TreeNode) (s :
     others = λ v n. same_order settled new i v ∙ others v n;
   }
 
--- more is known of the workers of one rack
-module _ (old : Search) (covers : List Cover) (rack : ℕ) (cover : Cover) (known : rack < length old.covers)
-    (put : covers ≡ slice_set old.covers rack cover) where
+-- more is known of the nodes that hang from one node
+module _ (old : Search) (covers : NodeTable Cover) (node : TreeNode) (cover : Cover)
+    (here : at_or covers no_cover node ≡ cover)
+    (others : (u : TreeNode) → u ≢ node → at_or covers no_cover u ≡ at_or old.covers no_cover u)
+    (sized : IsSized old.covers covers) where
   abbrev covering : Search
   covering = record old { covers = covers }
 
@@ -687,14 +689,17 @@ module _ (old : Search) (covers : List Cover) (rack : ℕ) (cover : Cover) (know
   pub covered_improves : Improves old covering
   covered_improves = record { nearer = covered_nearer; looked = refl; order = refl }
 
-  pub covered_kept : (g : Ground) → IsSearching g old → IsCovered g old cover rack → IsSearching g covering
+  pub covered_kept : (g : Ground) → IsSearching g old → IsCovered g old cover node → IsSearching g covering
   covered_kept g s covered = record {
     tables = record {
       far = s.tables.far;
       how = s.tables.how;
       order = s.tables.order;
       places = s.tables.places;
-      covers = ap length put ∙ length-set old.covers rack cover ∙ s.tables.covers;
+      covers = record {
+        racks = sized.racks ∙ s.tables.covers.racks;
+        centres = sized.centres ∙ s.tables.covers.centres;
+      };
     };
     reached = record {
       room = s.reached.room;
@@ -717,14 +722,11 @@ module _ (old : Search) (covers : List Cover) (rack : ℕ) (cover : Cover) (know
     goal = ends_kept old covering covered_nearer (λ u x b. b) (λ u some. some) g old.bound old.goal s.goal;
     bottom = s.bottom;
     shut = s.shut;
-    covered = λ r. elim (cases_eq r rack) [
-      | inl e ↦ subst (λ (q : ℕ). IsCovered g covering (cover_at covering q) q) (sym e)
-          (subst (λ cover. IsCovered g covering cover rack)
-          (sym (ap (λ cs. get_or cs rack no_cover) put
-          ∙ get_or-set_same old.covers rack cover no_cover known))
-          (cover_kept old covering covered_nearer g cover rack covered))
-      | inr n ↦ subst (λ cover. IsCovered g covering cover r)
-          (sym (ap (λ cs. get_or cs r no_cover) put ∙ get_or-set_other old.covers rack r cover no_cover n))
-          (cover_kept old covering covered_nearer g (cover_at old r) r (s.covered r))
+    covered = λ u. elim (same_or_not u node) [
+      | inl e ↦ subst (λ u. IsCovered g covering (cover_at covering u) u) (sym e)
+          (subst (λ cover. IsCovered g covering cover node) (sym here)
+          (cover_kept old covering covered_nearer g cover node covered))
+      | inr n ↦ subst (λ cover. IsCovered g covering cover u) (sym (others u n))
+          (cover_kept old covering covered_nearer g (cover_at old u) u (s.covered u))
     ];
   }

@@ -16,7 +16,7 @@ use Rattle.tree_flow.specs.State.{State, place_of}
 use Rattle.tree_flow.proofs.Given.{changes}
 use Rattle.tree_planner.specs.declared.engine.Fixed.{Fixed}
 use Rattle.tree_planner.specs.declared.tables.Tables.{Tables}
-use Rattle.tree_planner.specs.Ends.{ends_at, no_ends, AreEnds, Grouped, HasEnd, IsIn}
+use Rattle.tree_planner.specs.Ends.{ends_at, no_ends, AreEnds, Grouped, HasEnd, IsBarred}
 use Rattle.tree_planner.proofs.Grouped.{none_among}
 use Rattle.tree_planner.specs.Engine.{IsFixed, IsStanding}
 use Rattle.tree_planner.specs.Events.{with_pending}
@@ -142,7 +142,7 @@ module _ (wave : Wave) (s : ℕ) (pending : Bool) (known : s < length wave.split
 pub none_ends : (wave : Wave) (s : ℕ) → s < length wave.splits → (e : End)
     → HasEnd wave.tree (record { groups = []; barred = [] }) e ↔ IsEnd (with_pending wave s false) s e
 none_ends wave s known e = (
-  λ has. absurd (none_among wave.tree (IsIn []) e has),
+  λ has. absurd (none_among wave.tree (IsBarred wave.tree []) e has),
   λ is. absurd (false≢true (ap (λ (x : Split). x.pending) (sym
       (split_here wave s false known)) ∙ is.pending)),
 )

@@ -11,7 +11,6 @@ use Rattle.wave_problem.specs.Wave.{Wave, live_holders, split_at, worker_at, wor
 use Rattle.tree_flow.specs.declared.nodes.End.{End}
 use Rattle.tree_flow.specs.declared.nodes.TreeNode.{TreeNode}
 use Rattle.tree_flow.specs.declared.nodes.TreeNode.TheVariants.{Worker}
-use Rattle.node_ids.specs.Sets.{HasPair}
 use Rattle.tree_planner.specs.Bars.{top_of, AreBars, AreMet, HasEndFor, IsLevelEnd, IsTopEnd}
 use Rattle.tree_planner.specs.declared.split_ends.Group.{Group}
 use Rattle.tree_planner.specs.declared.split_ends.Group.TheVariants.{Single}
@@ -61,10 +60,10 @@ only_top wave s top e free t = end_same top e
 
 -- a group whose ends are those at and under a node is added to the groups
 pub push_ends : (wave : Wave) (s : ℕ) (top : End) (groups : List Group) (group : Group) (e : End)
-    → (IsOf wave.tree (HasPair wave.barred s) group e ↔ IsTopEnd wave s top e)
+    → (IsOf wave.tree (HasBarUnder wave s) group e ↔ IsTopEnd wave s top e)
     → HasEndFor wave s (groups ++ group ∷ []) e ↔ (HasEndFor wave s groups e ⊎ IsTopEnd wave s top e)
 push_ends wave s top groups group e same =
-    let both = push_group wave.tree (HasPair wave.barred s) groups group e in (
+    let both = push_group wave.tree (HasBarUnder wave s) groups group e in (
       λ i. elim (both.0 i) [
         | inl before ↦ inl before
         | inr of ↦ inr (same.0 of)

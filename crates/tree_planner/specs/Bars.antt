@@ -1,7 +1,6 @@
 -- Under which nodes workers are barred for a split, and the ends that this leaves it.
 use Rattle.std.specs.Prelude.{ℕ, ◌≡◌, ◌*◌, ◌<◌, ◌≤◌, ◌⊎◌, ◌↔◌, Bool, true, false, Option, Some, None}
 use Rattle.std.specs.Prelude.{IfSome, List, slice_index_or}
-use Rattle.node_ids.specs.Sets.{HasPair}
 use Rattle.rack_tree.specs.Tree.{reach}
 use Rattle.wave_problem.specs.Wave.{Wave, worker_at}
 use Rattle.tree_flow.specs.declared.node_table.NodeTable.{NodeTable}
@@ -45,9 +44,9 @@ pub record IsLevelEnd (wave : Wave) (s holder : ℕ) (e : End) : Type 0 where
 abbrev pub holder_at : List ℕ → ℕ → ℕ
 holder_at holders k = slice_index_or holders k 0
 
--- the end is of one of the groups, which leave the barred workers out
+-- the end is of one of the groups, which leave out the nodes with bars
 abbrev pub HasEndFor : Wave → ℕ → List Group → End → Type 0
-HasEndFor wave s groups e = IsAmong wave.tree (HasPair wave.barred s) groups e
+HasEndFor wave s groups e = IsAmong wave.tree (HasBarUnder wave s) groups e
 
 -- the ends of the first k holders are there
 abbrev pub AreMet : Wave → ℕ → List ℕ → ℕ → List Group → Type 0

@@ -18,8 +18,8 @@ use Rattle.tree_planner.specs.declared.search.Search.{Search}
 use Rattle.tree_planner.specs.declared.search.Step.{Step}
 use Rattle.tree_planner.specs.declared.search.Step.TheVariants.{Start, Down, Up, Over}
 use Rattle.tree_planner.specs.declared.split_ends.Group.{Group}
-use Rattle.tree_planner.specs.Covers.{no_cover}
-use Rattle.tree_planner.specs.Ends.{ends_at, AreEnds, IsIn, IsLeft, IsOf}
+use Rattle.tree_planner.specs.Covers.{no_cover, IsOverInner}
+use Rattle.tree_planner.specs.Ends.{ends_at, AreEnds, Grouped, IsBarred, IsLeft, IsOf}
 use Rattle.tree_planner.specs.Reaching.{floor_in, place_in}
 use Rattle.tree_planner.specs.Hanging.{AreChildren}
 use Rattle.tree_flow.specs.Moves.{IsLookedFrom}
@@ -69,16 +69,20 @@ place_at search v = place_in search.reached v
 abbrev pub floor_at : Search → ℕ → ℕ
 floor_at search place = floor_in search.reached (place / 32)
 
--- what is known of the workers of a rack
-abbrev pub cover_at : Search → ℕ → Cover
-cover_at search r = slice_index_or search.covers r no_cover
+-- what is known of the nodes that hang from a node
+abbrev pub cover_at : Search → TreeNode → Cover
+cover_at search u = at_or search.covers no_cover u
 
--- a worker that the groups of the split leave out
-abbrev pub IsOut : Ground → ℕ → ℕ → Type 0
-IsOut g s w = IsIn (ends_at g.ends.now s).barred w
+-- a node that the groups leave out
+abbrev pub IsOutBy : Ground → Grouped → TreeNode → Type 0
+IsOutBy g ends = IsBarred (wave_of g).tree ends.barred
+
+-- a node that the groups of the split leave out
+abbrev pub IsOut : Ground → ℕ → TreeNode → Type 0
+IsOut g s = IsOutBy g (ends_at g.ends.now s)
 
 -- what is of the group is an end of the split
-abbrev pub AreOf : Ground → ℕ → (ℕ → Type 0) → Group → Type 0
+abbrev pub AreOf : Ground → ℕ → (TreeNode → Type 0) → Group → Type 0
 AreOf g s Out group = (x : End) → IsOf (wave_of g).tree Out group x → IsEnd (wave_of g) s x
 
 -- whether it was come to
@@ -97,13 +101,13 @@ pub record HasReached (tree : Tree) (search : Search) : Type 0 where
       → (place_at search v < search.reached.count) × (reached_at search (place_at search v) ≡ v)
   pub looked : (v : TreeNode) → 0 < order_at search v → far_at search v < search.limit
 
--- its tables have an entry for each node, and its covers for each rack
+-- its tables have an entry for each node, and its covers for each node but workers
 pub record HasTables (tree : Tree) (search : Search) : Type 0 where
   pub far : IsOver tree search.far
   pub how : IsOver tree search.how
   pub order : IsOver tree search.order
   pub places : IsOver tree search.reached.places
-  pub covers : length search.covers ≡ length tree.centre_of
+  pub covers : IsOverInner tree search.covers
 
 -- no node was come to yet, and there is room for so many
 pub record IsBlank (tree : Tree) (nodes : ℕ) (search : Search) : Type 0 where
@@ -182,10 +186,10 @@ EndsIn g search bound Wait = bound ≡ search.limit
 EndsIn g search bound (Slot v) = EndsInSlot g search bound v
 EndsIn g search bound (Off t) = EndsOff g search bound t
 
--- each worker of the rack that the cover's split does not leave out is as near as it says, or past the bound
-pub record IsCovered (g : Ground) (search : Search) (cover : Cover) (r : ℕ) : Type 0 where
+-- each node below this one that the cover's split does not leave out is as near as it says, or past the bound
+pub record IsCovered (g : Ground) (search : Search) (cover : Cover) (u : TreeNode) : Type 0 where
   pub known : cover.split < length (wave_of g).splits
-  pub near : (v : TreeNode) → IsLeft (wave_of g).tree (IsOut g cover.split) r v
+  pub near : (v : TreeNode) → IsLeft (wave_of g).tree (IsOut g cover.split) u v
       → min search.bound (far_at search v) + reward (wave_of g) ≤ cover.offset + (state_at g).depth v
 
 -- what a search keeps to
@@ -205,7 +209,7 @@ pub record IsSearching (g : Ground) (search : Search) : Type 0 where
   pub goal : EndsIn g search search.bound search.goal
   pub bottom : (v : TreeNode) → 0 < sum_under (wave_of g) v (state_at g).free → search.bound ≤ far_at search v
   pub shut : (v : TreeNode) → 0 < order_at search v → sum_under (wave_of g) v (state_at g).free ≡ 0
-  pub covered : (r : ℕ) → IsCovered g search (cover_at search r) r
+  pub covered : (u : TreeNode) → IsCovered g search (cover_at search u) u
 
 -- a node in which the way ends was looked from too, and no node before it has a free slot under it
 abbrev pub IsLastOne : Ground → Search → Goal → Type 0

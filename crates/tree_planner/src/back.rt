@@ -1,6 +1,6 @@
 //! A search for the cheapest way to fill a hole: a slot under a node that nobody has.
 ghost use Rattle.std.specs.Prelude.{◌≡◌, ◌≢◌, ◌+◌, ◌*◌, ◌<◌, ◌≤◌, ◌^◌, min, ℕ, length, IfOk, MatchOption};
-ghost use Rattle.tree_planner.specs.Ends.{ends_at, IsIn, IsOf};
+ghost use Rattle.tree_planner.specs.Ends.{ends_at, IsBarred, IsOf};
 ghost use Rattle.wave_problem.specs.declared.TheConstants.{MAX_BYTES};
 ghost use Rattle.wave_problem.specs.Wave.{reward};
 ghost use Rattle.tree_flow.specs.declared.nodes.End.{End};
@@ -502,7 +502,8 @@ fn over_group(
 )
     requires hollow { IsHollow hollow.now }
     requires split { split < length (wave_of hollow.now).splits }
-    requires group { (x : End) → IsOf (wave_of hollow.now).tree (IsIn ends.now.barred) group x
+    requires group { (x : End) → IsOf (wave_of hollow.now).tree
+        (IsBarred (wave_of hollow.now).tree ends.now.barred) group x
         → IsEnd (wave_of hollow.now) split x }
     requires searching { IsSearching hollow.now search.old }
     requires known { IsNode (wave_of hollow.now).tree node }
@@ -510,13 +511,14 @@ fn over_group(
     ensures hole { search.new.hole ≡ search.old.hole }
     ensures searching { IsSearching hollow.now search.new }
     ensures improves { Improves search.old search.new }
-    ensures over { (x : End) → IsOf (wave_of hollow.now).tree (IsIn ends.now.barred) group x
+    ensures over { (x : End) → IsOf (wave_of hollow.now).tree
+        (IsBarred (wave_of hollow.now).tree ends.now.barred) group x
         → IsInto hollow.now search.new node split x }
 {
     match group {
         Group::Single(end) => over_at(hollow, search, node, split, end),
-        Group::Workers(rack, level) => {
-            if is_left(hollow.problem.tree(), ends, rack, node) {
+        Group::Below(top, level) => {
+            if is_left(hollow.problem.tree(), ends, top, node) {
                 step_over(hollow, search, split, End { node, level });
             }
         }

@@ -3,14 +3,14 @@ ghost use Rattle.std.specs.Prelude.{◌≡◌, ◌<◌, ◌≤◌, ℕ, length, 
 ghost use Rattle.tree_flow.specs.declared.nodes.End.{End};
 ghost use Rattle.tree_flow.specs.Nodes.{IsEnd, IsNode};
 ghost use Rattle.tree_flow.specs.State.{reach_cost};
-ghost use Rattle.tree_planner.specs.declared.split_ends.Group.TheVariants.{Workers};
+ghost use Rattle.tree_planner.specs.declared.split_ends.Group.TheVariants.{Below};
 ghost use Rattle.tree_planner.specs.Choosing.{IsBetter, IsCheapest, IsChoice};
-ghost use Rattle.tree_planner.specs.Ends.{IsIn, IsLeft, IsOf};
-ghost use Rattle.tree_planner.specs.Searching.{state_at, wave_of, AreOf, IsGround};
+ghost use Rattle.tree_planner.specs.Ends.{IsLeft, IsOf};
+ghost use Rattle.tree_planner.specs.Searching.{state_at, wave_of, AreOf, IsGround, IsOutBy};
 
-use crate::search::{Ground, cost_at, end_cost, ends_of, workers_in};
+use crate::search::{Ground, cost_at, cost_below, end_cost, ends_of, nodes_below};
 use crate::split_ends::{Ends, Group, is_left};
-use tree_flow::End;
+use tree_flow::{End, TreeNode};
 
 /// What is done with a split.
 #[derive(Clone, Copy)]
@@ -75,67 +75,71 @@ fn best_of(
 ) -> Cheapest
     requires ground { IsGround ground.now }
     requires split { split < length (wave_of ground.now).splits }
-    requires group { AreOf ground.now split (IsIn ends.now.barred) group }
+    requires group { AreOf ground.now split (IsOutBy ground.now ends.now) group }
     requires cheapest { IsCheapest ground.now split best }
     ensures cheapest { IsCheapest ground.now split result }
     ensures before { result.least ≤ best.least }
-    ensures better { (x : End) → IsOf (wave_of ground.now).tree (IsIn ends.now.barred) group x
+    ensures better { (x : End) → IsOf (wave_of ground.now).tree (IsOutBy ground.now ends.now) group x
         → result.least ≤ reach_cost (wave_of ground.now) (state_at ground.now) split x }
 {
     match group {
         Group::Single(end) => better(ground, split, best, end),
-        Group::Workers(rack, level) => best_worker(ground, split, best, ends, rack, level),
+        Group::Below(top, level) => best_below(ground, split, best, ends, top, level),
     }
 }
 
-// The same of workers of a rack. None of them costs less than one that lies at 0.
-fn best_worker(
+// The same of nodes that hang from a node. None of them costs less than one that lies at 0.
+fn best_below(
     ground: &Ground<'_>,
     split: u32,
     best: Cheapest,
     ends: &Ends<'_>,
-    rack: u16,
+    top: TreeNode,
     level: u8,
 ) -> Cheapest
     requires ground { IsGround ground.now }
     requires split { split < length (wave_of ground.now).splits }
-    requires group { AreOf ground.now split (IsIn ends.now.barred) (Workers rack level) }
+    requires group { AreOf ground.now split (IsOutBy ground.now ends.now) (Below top level) }
     requires cheapest { IsCheapest ground.now split best }
     ensures cheapest { IsCheapest ground.now split result }
     ensures before { result.least ≤ best.least }
-    ensures better { (x : End) → IsOf (wave_of ground.now).tree (IsIn ends.now.barred) (Workers rack level) x
+    ensures better { (x : End) → IsOf (wave_of ground.now).tree (IsOutBy ground.now ends.now) (Below top level) x
         → result.least ≤ reach_cost (wave_of ground.now) (state_at ground.now) split x }
 {
     let mut best = best;
     if best.least < end_cost(ground, split, level) {
         return best;
     }
-    let nodes = workers_in(ground, rack);
+    let nodes = nodes_below(ground, top);
     for node in nodes {
-        best = better_node(ground, split, best, ends, rack, End { node: *node, level });
+        best = better_node(ground, split, best, ends, top, End { node: *node, level });
     }
     best
 }
 
-// The same of one node of a rack.
+// The same of one of these nodes.
 fn better_node(
     ground: &Ground<'_>,
     split: u32,
     best: Cheapest,
     ends: &Ends<'_>,
-    rack: u16,
+    top: TreeNode,
     end: End,
 ) -> Cheapest
     requires ground { IsGround ground.now }
+    requires split { split < length (wave_of ground.now).splits }
     requires known { IsNode (wave_of ground.now).tree end.node }
-    requires group { AreOf ground.now split (IsIn ends.now.barred) (Workers rack end.level) }
+    requires group { AreOf ground.now split (IsOutBy ground.now ends.now) (Below top end.level) }
     requires cheapest { IsCheapest ground.now split best }
     ensures cheapest { IsCheapest ground.now split result }
     ensures before { result.least ≤ best.least }
-    ensures better { IsLeft (wave_of ground.now).tree (IsIn ends.now.barred) rack end.node
+    ensures better { IsLeft (wave_of ground.now).tree (IsOutBy ground.now ends.now) top end.node
         → result.least ≤ reach_cost (wave_of ground.now) (state_at ground.now) split end }
 {
-    if is_left(ground.problem.tree(), ends, rack, end.node) {
+    if cost_below(ground, split, end) > best.least {
+        return best;
+    }
+    if is_left(ground.problem.tree(), ends, top, end.node) {
         return better(ground, split, best, end);
     }
     best

@@ -1,79 +1,91 @@
-//! How near the workers of each rack are, as far as a search knows.
-ghost use Rattle.std.specs.Prelude.{◌≡◌, ◌<◌, ◌*◌, ℕ, IfOk, length, replicate, slice_index_or, slice_set};
-ghost use Rattle.tree_planner.specs.Covers.{no_cover};
+//! How near the nodes that hang from each node are, as far as a search knows.
+ghost use Rattle.std.specs.Prelude.{◌≡◌, ◌≢◌, IfOk, length};
+ghost use Rattle.tree_flow.specs.declared.nodes.TreeNode.{TreeNode};
+ghost use Rattle.tree_flow.specs.Table.{at_or, HasNode, IsSized};
+ghost use Rattle.tree_planner.specs.Covers.{no_cover, IsOverInner};
 
 use crate::reached::FAR;
+use node_ids::RackNo;
+use rack_tree::RackTree;
 use std::alloc::{AllocError, Global};
 use std::marker::Model;
+use tree_flow::{NodeTable, TreeNode};
 
-/// How near the workers of a rack are that some split's ends do not leave out: no farther than the offset with
-/// their depth, the reward taken off.
+/// How near the nodes that hang from a node are that some split's ends do not leave out: no farther than the
+/// offset with their depth, the reward taken off.
 #[derive(Clone, Copy)]
 pub struct Cover {
     pub offset: u64,
     pub split: u32,
 }
 
-/// A cover for each rack. To forget them takes no pass over the racks, unless one was put.
+/// A cover for each rack and centre, and one for the cluster. To forget them takes no pass over the racks,
+/// unless one was put.
 #[derive(Drop)]
 pub struct Covers {
-    racks: Vec<Cover>,
+    table: NodeTable<Cover>,
     is_used: bool,
 }
 
 impl Model for Covers {
-    ghost use Rattle.std.specs.Prelude.{◌≡◌, All, List, false};
+    ghost use Rattle.std.specs.Prelude.{◌≡◌, false};
+    ghost use Rattle.tree_flow.specs.declared.node_table.NodeTable.{NodeTable};
+    ghost use Rattle.tree_flow.specs.declared.nodes.TreeNode.{TreeNode};
+    ghost use Rattle.tree_flow.specs.Table.{at_or};
     ghost use Rattle.tree_planner.specs.declared.covers.Cover.{Cover};
     ghost use Rattle.tree_planner.specs.Covers.{no_cover};
 
-    ghost Value = { List Cover };
+    ghost Value = { NodeTable Cover };
 
-    ghost view = { λ c. c.racks.items };
+    ghost view = { λ c. c.table };
 
-    ghost invariant = { λ c. c.is_used ≡ false → All (λ cover. cover ≡ no_cover) c.racks.items };
+    ghost invariant = { λ c. c.is_used ≡ false → (u : TreeNode) → at_or c.table no_cover u ≡ no_cover };
 }
 
 impl Covers {
-    /// Nothing is known of so many racks.
-    pub fn new(alloc: Global, racks: usize) -> Result<Covers, AllocError>
-        ensures { IfOk result (λ covers. covers ≡ replicate racks no_cover) }
+    /// Nothing is known of the nodes of a tree.
+    pub fn new(alloc: Global, tree: &RackTree) -> Result<Covers, AllocError>
+        ensures over { IfOk result (λ covers. IsOverInner tree.now covers) }
     {
+        let inner = without_workers(alloc, tree)?;
         Ok(Covers {
-            racks: vec![in alloc; none(); racks]?,
+            table: NodeTable::new(alloc, &inner, none())?,
             is_used: false,
         })
     }
 
-    /// The cover of a rack.
-    pub fn of(&self, rack: u16) -> Cover
-        requires { rack < length self.now }
-        ensures { result ≡ slice_index_or self.now rack no_cover }
+    /// The cover of a node.
+    pub fn of(&self, node: TreeNode) -> Cover
+        requires { HasNode self.now node }
+        ensures { result ≡ at_or self.now no_cover node }
     {
-        self.racks[rack as usize]
+        self.table.get(node)
     }
 
-    /// Gives a rack another cover.
-    pub fn put(&mut self, rack: u16, cover: Cover)
-        requires { rack < length self.old }
-        ensures { self.new ≡ slice_set self.old rack cover }
+    /// Gives a node another cover.
+    pub fn put(&mut self, node: TreeNode, cover: Cover)
+        requires { HasNode self.old node }
+        ensures here { at_or self.new no_cover node ≡ cover }
+        ensures others { (u : TreeNode) → u ≢ node → at_or self.new no_cover u ≡ at_or self.old no_cover u }
+        ensures size { IsSized self.old self.new }
     {
-        self.racks[rack as usize] = cover;
+        self.table.set(node, cover);
         self.is_used = true;
     }
 
     /// Forgets the covers.
     pub fn clear(&mut self)
-        ensures size { length self.new ≡ length self.old }
-        ensures none { (r : ℕ) → slice_index_or self.new r no_cover ≡ no_cover }
+        ensures size { IsSized self.old self.new }
+        ensures none { (u : TreeNode) → at_or self.new no_cover u ≡ no_cover }
     {
         if self.is_used {
-            forget(&mut self.racks);
+            self.table.fill(none());
             self.is_used = false;
         }
     }
 }
 
-// The cover of a rack of which nothing is known.
+// The cover of a node of which nothing is known.
 fn none() -> Cover
     ensures { result ≡ no_cover }
 {
@@ -83,11 +95,14 @@ fn none() -> Cover
     }
 }
 
-fn forget(racks: &mut Vec<Cover>)
-    ensures size { length racks.new.items ≡ length racks.old.items }
-    ensures none { (r : ℕ) → slice_index_or racks.new.items r no_cover ≡ no_cover }
+// The racks and centres of a tree alone.
+fn without_workers(alloc: Global, tree: &RackTree) -> Result<RackTree, AllocError>
+    ensures racks { IfOk result (λ inner. length inner.centre_of ≡ length tree.now.centre_of) }
+    ensures centres { IfOk result (λ inner. inner.centres ≡ tree.now.centres) }
 {
-    for r in 0..racks.len() {
-        racks[r] = none();
+    let mut centre_of = Vec::with_capacity(alloc, tree.racks())?;
+    for r in 0..tree.racks() {
+        centre_of.push(tree.centre_of(RackNo::new(r as u16)))?;
     }
+    Ok(RackTree::from_lists(tree.centres(), centre_of, Vec::new(alloc)))
 }

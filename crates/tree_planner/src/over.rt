@@ -2,16 +2,20 @@
 ghost use Rattle.std.specs.Prelude.{◌≡◌, ◌+◌, ◌<◌, ◌≤◌, ℕ, length};
 ghost use Rattle.tree_flow.specs.declared.nodes.End.{End};
 ghost use Rattle.tree_flow.specs.declared.nodes.Place.TheVariants.{Stands};
-ghost use Rattle.tree_flow.specs.declared.nodes.TreeNode.TheVariants.{Worker};
+ghost use Rattle.tree_flow.specs.declared.nodes.TreeNode.{TreeNode};
 ghost use Rattle.tree_flow.specs.Nodes.{IsEnd, IsNode};
 ghost use Rattle.tree_flow.specs.State.{place_of};
-ghost use Rattle.tree_planner.specs.declared.split_ends.Group.TheVariants.{Workers};
-ghost use Rattle.tree_planner.specs.Ends.{ends_at, IsIn, IsLeft, IsOf};
+ghost use Rattle.tree_planner.specs.declared.split_ends.Group.TheVariants.{Below};
+ghost use Rattle.tree_planner.specs.Ends.{ends_at, IsLeft, IsOf};
 ghost use Rattle.tree_planner.specs.Searching.{state_at, wave_of, AreOf, GoesAllOver, Improves, IsAt, IsGround};
-ghost use Rattle.tree_planner.specs.Searching.{IsLeaving, IsOut, IsOverTo, IsSearching};
+ghost use Rattle.tree_planner.specs.Searching.{IsLeaving, IsOut, IsOutBy, IsOverTo, IsSearching};
 
-use crate::search::{Goal, Ground, Search, Step, cost_at, end_cost, ends_of, is_free, workers_in};
+use crate::search::{
+    Goal, Ground, Search, Step, cost_at, cost_below, end_cost, ends_of, is_free, is_inner,
+    nodes_below,
+};
 use crate::split_ends::{Ends, Group, is_left};
+use crate::tree_nodes::next_above;
 use tree_flow::{End, TreeNode};
 
 /// A split that may leave the end at which it stands: how far the end is, and what the split costs there.
@@ -66,39 +70,39 @@ fn over_group(
     requires searching { IsSearching ground.now search.old }
     requires leaving { IsLeaving ground.now search.old leaving }
     requires ends { ends.now ≡ ends_at ground.now.ends.now leaving.split }
-    requires group { AreOf ground.now leaving.split (IsIn ends.now.barred) group }
+    requires group { AreOf ground.now leaving.split (IsOutBy ground.now ends.now) group }
     ensures searching { IsSearching ground.now search.new }
     ensures improves { Improves search.old search.new }
-    ensures over { (x : End) → IsOf (wave_of ground.now).tree (IsIn ends.now.barred) group x
+    ensures over { (x : End) → IsOf (wave_of ground.now).tree (IsOutBy ground.now ends.now) group x
         → IsOverTo ground.now search.new leaving.end leaving.split x }
 {
     match group {
         Group::Single(other) => over_to(ground, search, leaving, other),
-        Group::Workers(rack, level) => over_workers(ground, search, leaving, ends, rack, level),
+        Group::Below(top, level) => over_below(ground, search, leaving, ends, top, level),
     }
 }
 
-// Takes the steps of a split to workers of a rack. Where another split has taken such steps, and was no
-// farther, only the workers are left that its groups leave out.
-fn over_workers(
+// Takes the steps of a split to nodes that hang from a node. Where another split has taken such steps, and
+// was no farther, only the nodes are left that its groups leave out.
+fn over_below(
     ground: &Ground<'_>,
     search: &mut Search,
     leaving: Leaving,
     ends: &Ends<'_>,
-    rack: u16,
+    top: TreeNode,
     level: u8,
 )
     requires ground { IsGround ground.now }
     requires searching { IsSearching ground.now search.old }
     requires leaving { IsLeaving ground.now search.old leaving }
     requires ends { ends.now ≡ ends_at ground.now.ends.now leaving.split }
-    requires group { AreOf ground.now leaving.split (IsIn ends.now.barred) (Workers rack level) }
+    requires group { AreOf ground.now leaving.split (IsOutBy ground.now ends.now) (Below top level) }
     ensures searching { IsSearching ground.now search.new }
     ensures improves { Improves search.old search.new }
-    ensures over { (x : End) → IsOf (wave_of ground.now).tree (IsIn ends.now.barred) (Workers rack level) x
+    ensures over { (x : End) → IsOf (wave_of ground.now).tree (IsOutBy ground.now ends.now) (Below top level) x
         → IsOverTo ground.now search.new leaving.end leaving.split x }
 {
-    if rack as usize >= ground.problem.tree().racks() {
+    if !is_inner(ground, top) {
         return;
     }
     let offset = leaving.far + end_cost(ground, leaving.split, level) + ground.reward
@@ -106,98 +110,110 @@ fn over_workers(
     if search.bound + ground.reward <= offset {
         return;
     }
-    let cover = search.covers.of(rack);
+    let cover = search.covers.of(top);
     if cover.offset <= offset {
-        over_rest(ground, search, leaving, ends, rack, level, cover.split);
+        over_rest(ground, search, leaving, ends, top, level, cover.split);
     } else {
-        over_all(ground, search, leaving, ends, rack, level);
-        search.cover(rack, offset, leaving.split);
+        over_all(ground, search, leaving, ends, top, level);
+        search.cover(top, offset, leaving.split);
     }
 }
 
-// To all workers of a rack that are not left out.
+// To all nodes that hang from a node and are not left out.
 fn over_all(
     ground: &Ground<'_>,
     search: &mut Search,
     leaving: Leaving,
     ends: &Ends<'_>,
-    rack: u16,
+    top: TreeNode,
     level: u8,
 )
     requires ground { IsGround ground.now }
     requires searching { IsSearching ground.now search.old }
     requires leaving { IsLeaving ground.now search.old leaving }
-    requires group { AreOf ground.now leaving.split (IsIn ends.now.barred) (Workers rack level) }
+    requires group { AreOf ground.now leaving.split (IsOutBy ground.now ends.now) (Below top level) }
     ensures searching { IsSearching ground.now search.new }
     ensures improves { Improves search.old search.new }
-    ensures over { (x : End) → IsOf (wave_of ground.now).tree (IsIn ends.now.barred) (Workers rack level) x
+    ensures over { (x : End) → IsOf (wave_of ground.now).tree (IsOutBy ground.now ends.now) (Below top level) x
         → IsOverTo ground.now search.new leaving.end leaving.split x }
 {
-    let nodes = workers_in(ground, rack);
+    let nodes = nodes_below(ground, top);
     for node in nodes {
         over_node(
             ground,
             search,
             leaving,
             ends,
-            rack,
+            top,
             End { node: *node, level },
         );
     }
 }
 
-// To the workers of a rack that the groups of another split leave out.
+// To the nodes that hang from a node and that the groups of another split leave out; where that split has more
+// barred workers than nodes hang there, to all.
 fn over_rest(
     ground: &Ground<'_>,
     search: &mut Search,
     leaving: Leaving,
     ends: &Ends<'_>,
-    rack: u16,
+    top: TreeNode,
     level: u8,
     other: u32,
 )
     requires ground { IsGround ground.now }
     requires searching { IsSearching ground.now search.old }
     requires leaving { IsLeaving ground.now search.old leaving }
-    requires group { AreOf ground.now leaving.split (IsIn ends.now.barred) (Workers rack level) }
+    requires group { AreOf ground.now leaving.split (IsOutBy ground.now ends.now) (Below top level) }
     requires other { other < length (wave_of ground.now).splits }
     ensures searching { IsSearching ground.now search.new }
     ensures improves { Improves search.old search.new }
-    ensures over { (w : ℕ) → IsOut ground.now other w
-        → IsLeft (wave_of ground.now).tree (IsIn ends.now.barred) rack (Worker w)
-        → IsOverTo ground.now search.new leaving.end leaving.split (record { node = Worker w; level = level }) }
+    ensures over { (v : TreeNode) → IsOut ground.now other v
+        → IsLeft (wave_of ground.now).tree (IsOutBy ground.now ends.now) top v
+        → IsOverTo ground.now search.new leaving.end leaving.split (record { node = v; level = level }) }
 {
-    let most = ground.problem.workers();
+    let tree = ground.problem.tree();
+    let most = tree.workers();
     let workers = ends_of(ground, other).barred();
+    let many = workers.len() >= nodes_below(ground, top).len();
+    if many {
+        over_all(ground, search, leaving, ends, top, level);
+        return;
+    }
     for worker in workers {
         let number = worker.index();
         if number < most {
-            let node = TreeNode::Worker(number as u16);
-            over_node(ground, search, leaving, ends, rack, End { node, level });
+            let node = next_above(tree, top, *worker);
+            over_node(ground, search, leaving, ends, top, End { node, level });
         }
     }
 }
 
-// To one node of a rack, if it is a worker that is not left out.
+// To one node, if it hangs from the top and is not left out. Whether it is nearer is asked first, as bars may be
+// many.
 fn over_node(
     ground: &Ground<'_>,
     search: &mut Search,
     leaving: Leaving,
     ends: &Ends<'_>,
-    rack: u16,
+    top: TreeNode,
     end: End,
 )
     requires ground { IsGround ground.now }
     requires searching { IsSearching ground.now search.old }
     requires leaving { IsLeaving ground.now search.old leaving }
     requires known { IsNode (wave_of ground.now).tree end.node }
-    requires group { AreOf ground.now leaving.split (IsIn ends.now.barred) (Workers rack end.level) }
+    requires group { AreOf ground.now leaving.split (IsOutBy ground.now ends.now) (Below top end.level) }
     ensures searching { IsSearching ground.now search.new }
     ensures improves { Improves search.old search.new }
-    ensures over { IsLeft (wave_of ground.now).tree (IsIn ends.now.barred) rack end.node
+    ensures over { IsLeft (wave_of ground.now).tree (IsOutBy ground.now ends.now) top end.node
         → IsOverTo ground.now search.new leaving.end leaving.split end }
 {
-    if is_left(ground.problem.tree(), ends, rack, end.node) {
+    let distance = leaving.far + cost_below(ground, leaving.split, end);
+    if search.is_past(end.node, distance, leaving.spent) {
+        return;
+    }
+    if is_left(ground.problem.tree(), ends, top, end.node) {
         over_to(ground, search, leaving, end);
     }
 }

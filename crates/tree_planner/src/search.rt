@@ -6,10 +6,10 @@ ghost use Rattle.wave_problem.specs.Wave.{reward, split_at};
 ghost use Rattle.tree_flow.specs.declared.nodes.End.{End};
 ghost use Rattle.tree_flow.specs.declared.nodes.Place.TheVariants.{Stands};
 ghost use Rattle.tree_flow.specs.declared.nodes.TreeNode.{TreeNode};
-ghost use Rattle.tree_flow.specs.declared.nodes.TreeNode.TheVariants.{Rack, Worker};
 ghost use Rattle.tree_planner.specs.Choosing.{IsLeast};
-ghost use Rattle.tree_planner.specs.Ends.{ends_at, IsIn, IsLeft, IsOf};
-ghost use Rattle.tree_planner.specs.declared.split_ends.Group.TheVariants.{Workers};
+ghost use Rattle.tree_planner.specs.Covers.{IsInner};
+ghost use Rattle.tree_planner.specs.Ends.{ends_at, IsLeft, IsOf};
+ghost use Rattle.tree_planner.specs.declared.split_ends.Group.TheVariants.{Below};
 ghost use Rattle.tree_planner.specs.Hanging.{HangsFrom};
 ghost use Rattle.tree_planner.specs.declared.search.Ground.{Ground};
 ghost use Rattle.tree_flow.specs.Nodes.{parent, IsEnd, IsNode};
@@ -19,7 +19,7 @@ ghost use Rattle.tree_planner.specs.Searching.{HasStarted, Improves, IsAt, IsGro
 ghost use Rattle.tree_planner.specs.Reaching.{HasRoom};
 ghost use Rattle.tree_planner.specs.Searching.{place_at, reached_at, AreFloorsNew, HasReached, HasTables};
 ghost use Rattle.tree_planner.specs.Searching.{IsBlank, IsCandidate};
-ghost use Rattle.tree_planner.specs.Searching.{AreOf, IsCovered, IsLeaving, IsOut};
+ghost use Rattle.tree_planner.specs.Searching.{AreOf, IsCovered, IsLeaving, IsOut, IsOutBy};
 ghost use Rattle.tree_planner.specs.Searching.{LeadsTo, IsNearest, IsStartedAt, Settles, IsDown, GoesAllOver, IsOverTo};
 ghost use Rattle.tree_flow.specs.Table.{HasNode, IsSized};
 
@@ -82,8 +82,8 @@ pub struct Ground<'a> {
 }
 
 /// Which split is shipped, what its cheapest end costs at least, and how far a way may go; how far each node
-/// is, how it was come to, as which one it was looked from; the nodes that were come to; how near the workers
-/// of each rack are; and the nearest end of a way, and how far it is. Its tables serve one search after
+/// is, how it was come to, as which one it was looked from; the nodes that were come to; how near the nodes
+/// below each node are; and the nearest end of a way, and how far it is. Its tables serve one search after
 /// another: between two of them no node has been come to.
 #[derive(Drop)]
 pub struct Search {
@@ -109,7 +109,7 @@ impl Search {
         let how = NodeTable::new(alloc, tree, Step::Down)?;
         let order = NodeTable::new(alloc, tree, 0)?;
         let reached = Reached::new(alloc, tree, nodes)?;
-        let covers = Covers::new(alloc, tree.racks())?;
+        let covers = Covers::new(alloc, tree)?;
         Ok(Search {
             split: 0,
             least: 0,
@@ -156,6 +156,16 @@ impl Search {
         distance < self.bound && distance < self.far.get(node)
     }
 
+    /// Whether a node at this distance, so much less, is surely no nearer than it was, or than the nearest end of
+    /// a way.
+    pub fn is_past(&self, node: TreeNode, distance: u64, less: u64) -> bool
+        requires far { HasNode self.now.far node }
+        requires small { self.now.bound + less < 2 ^ 64 }
+        ensures { IsTrue result → min self.now.bound (far_at self.now node) + less ≤ distance }
+    {
+        distance >= self.bound.min(self.far.get(node)) + less
+    }
+
     /// Comes to a node, where that is nearer. Where a slot is free under it, a way ends there.
     pub fn reach(&mut self, node: TreeNode, distance: u64, step: Step, free: bool)
         requires far { HasNode self.old.far node }
@@ -193,15 +203,15 @@ impl Search {
         }
     }
 
-    /// Notes how near the workers of a rack are that the groups of a split do not leave out.
-    pub fn cover(&mut self, rack: u16, offset: u64, split: u32)
-        requires { rack < length self.old.covers }
+    /// Notes how near the nodes that hang from a node are that the groups of a split do not leave out.
+    pub fn cover(&mut self, top: TreeNode, offset: u64, split: u32)
+        requires { HasNode self.old.covers top }
         ensures improves { Improves self.old self.new }
         ensures kept { (g : Ground) → IsSearching g self.old
-            → IsCovered g self.old (record { offset = offset; split = split }) rack → IsSearching g self.new }
+            → IsCovered g self.old (record { offset = offset; split = split }) top → IsSearching g self.new }
         ensures same { self.new ≡ record self.old { covers = self.new.covers } }
     {
-        self.covers.put(rack, Cover { offset, split });
+        self.covers.put(top, Cover { offset, split });
     }
 
     // Puts the node next in order.
@@ -273,18 +283,29 @@ pub fn ends_of<'g>(ground: &'g Ground<'_>, split: u32) -> Ends<'g>
     ground.ends.at(split as usize)
 }
 
-/// The nodes that hang from a rack; none, where there is no such rack.
-pub fn workers_in<'g>(ground: &'g Ground<'_>, rack: u16) -> &'g [TreeNode]
+/// Whether nodes can hang from a node: whether the tree has it, and it is no worker.
+pub fn is_inner(ground: &Ground<'_>, node: TreeNode) -> bool
+    ensures { IsTrue result ↔ IsInner (wave_of ground.now).tree node }
+{
+    let tree = ground.problem.tree();
+    match node {
+        TreeNode::Worker(_) => false,
+        TreeNode::Rack(rack) => (rack as usize) < tree.racks(),
+        TreeNode::Centre(centre) => (centre as usize) < tree.centres(),
+        TreeNode::Cluster => true,
+    }
+}
+
+/// The nodes that hang from a node.
+pub fn nodes_below<'g>(ground: &'g Ground<'_>, top: TreeNode) -> &'g [TreeNode]
     requires { IsGround ground.now }
     ensures known { All (IsNode (wave_of ground.now).tree) result.now }
-    ensures all { (v : TreeNode) → HangsFrom (wave_of ground.now).tree (Rack rack) v → Contains result.now v }
+    ensures all { (v : TreeNode) → HangsFrom (wave_of ground.now).tree top v → Contains result.now v }
 {
-    if rack as usize >= ground.problem.tree().racks() {
+    if !is_inner(ground, top) {
         return &[];
     }
-    ground
-        .children
-        .of(ground.problem.tree(), TreeNode::Rack(rack))
+    ground.children.of(ground.problem.tree(), top)
 }
 
 /// What it costs the split to end at this level, at a node that lies at 0.
@@ -305,6 +326,17 @@ pub fn cost_at(ground: &Ground<'_>, split: u32, end: End) -> u64
 {
     let steps = 2 * u64::from(end.level);
     ground.problem.bytes(SplitNo::new(split)) * steps + depth_of(ground, end.node)
+}
+
+/// The same of a node that may be an end.
+pub fn cost_below(ground: &Ground<'_>, split: u32, end: End) -> u64
+    requires ground { IsGround ground.now }
+    requires split { split < length (wave_of ground.now).splits }
+    requires known { IsNode (wave_of ground.now).tree end.node }
+    ensures cost { result ≡ reach_cost (wave_of ground.now) (state_at ground.now) split end }
+    ensures most { result ≤ 510 * MAX_BYTES + reward (wave_of ground.now) }
+{
+    end_cost(ground, split, end.level) + depth_of(ground, end.node)
 }
 
 /// Searches from the ends of a split, over steps that a unit may take, as far as the nearest end of a way
@@ -369,73 +401,79 @@ fn start_group(ground: &Ground<'_>, search: &mut Search, ends: &Ends<'_>, group:
     requires searching { IsSearching ground.now search.old }
     requires none { (v : TreeNode) → order_at search.old v ≡ 0 }
     requires ends { ends.now ≡ ends_at ground.now.ends.now search.old.split }
-    requires group { AreOf ground.now search.old.split (IsIn ends.now.barred) group }
+    requires group { AreOf ground.now search.old.split (IsOutBy ground.now ends.now) group }
     requires least { IsLeast (wave_of ground.now) (state_at ground.now) search.old.split search.old.least }
     ensures improves { Improves search.old search.new }
     ensures searching { IsSearching ground.now search.new }
-    ensures started { (x : End) → IsOf (wave_of ground.now).tree (IsIn ends.now.barred) group x
+    ensures started { (x : End) → IsOf (wave_of ground.now).tree (IsOutBy ground.now ends.now) group x
         → IsStartedAt ground.now search.new x }
 {
     match group {
         Group::Single(end) => start_at(ground, search, end),
-        Group::Workers(rack, level) => start_workers(ground, search, ends, rack, level),
+        Group::Below(top, level) => start_below(ground, search, ends, top, level),
     }
 }
 
-// Comes to workers of a rack. Nothing was known of these yet, or of workers that are nearer.
-fn start_workers(ground: &Ground<'_>, search: &mut Search, ends: &Ends<'_>, rack: u16, level: u8)
+// Comes to nodes that hang from a node. Nothing was known of these yet, or of nodes that are nearer.
+fn start_below(ground: &Ground<'_>, search: &mut Search, ends: &Ends<'_>, top: TreeNode, level: u8)
     requires ground { IsGround ground.now }
     requires split { search.old.split < length (wave_of ground.now).splits }
     requires searching { IsSearching ground.now search.old }
     requires none { (v : TreeNode) → order_at search.old v ≡ 0 }
     requires ends { ends.now ≡ ends_at ground.now.ends.now search.old.split }
-    requires group { AreOf ground.now search.old.split (IsIn ends.now.barred) (Workers rack level) }
+    requires group { AreOf ground.now search.old.split (IsOutBy ground.now ends.now) (Below top level) }
     requires least { IsLeast (wave_of ground.now) (state_at ground.now) search.old.split search.old.least }
     ensures improves { Improves search.old search.new }
     ensures searching { IsSearching ground.now search.new }
-    ensures started { (x : End) → IsOf (wave_of ground.now).tree (IsIn ends.now.barred) (Workers rack level) x
+    ensures started { (x : End) → IsOf (wave_of ground.now).tree (IsOutBy ground.now ends.now) (Below top level) x
         → IsStartedAt ground.now search.new x }
 {
-    if rack as usize >= ground.problem.tree().racks() {
+    if !is_inner(ground, top) {
         return;
     }
-    start_all(ground, search, ends, rack, level);
+    start_all(ground, search, ends, top, level);
     let offset = end_cost(ground, search.split, level) + search.limit;
-    if offset < search.covers.of(rack).offset {
-        search.cover(rack, offset, search.split);
+    if offset < search.covers.of(top).offset {
+        search.cover(top, offset, search.split);
     }
 }
 
-fn start_all(ground: &Ground<'_>, search: &mut Search, ends: &Ends<'_>, rack: u16, level: u8)
+fn start_all(ground: &Ground<'_>, search: &mut Search, ends: &Ends<'_>, top: TreeNode, level: u8)
     requires ground { IsGround ground.now }
+    requires split { search.old.split < length (wave_of ground.now).splits }
     requires searching { IsSearching ground.now search.old }
     requires none { (v : TreeNode) → order_at search.old v ≡ 0 }
-    requires group { AreOf ground.now search.old.split (IsIn ends.now.barred) (Workers rack level) }
+    requires group { AreOf ground.now search.old.split (IsOutBy ground.now ends.now) (Below top level) }
     requires least { IsLeast (wave_of ground.now) (state_at ground.now) search.old.split search.old.least }
     ensures improves { Improves search.old search.new }
     ensures searching { IsSearching ground.now search.new }
-    ensures started { (x : End) → IsOf (wave_of ground.now).tree (IsIn ends.now.barred) (Workers rack level) x
+    ensures started { (x : End) → IsOf (wave_of ground.now).tree (IsOutBy ground.now ends.now) (Below top level) x
         → IsStartedAt ground.now search.new x }
 {
-    let nodes = workers_in(ground, rack);
+    let nodes = nodes_below(ground, top);
     for node in nodes {
-        start_node(ground, search, ends, rack, End { node: *node, level });
+        start_node(ground, search, ends, top, End { node: *node, level });
     }
 }
 
-fn start_node(ground: &Ground<'_>, search: &mut Search, ends: &Ends<'_>, rack: u16, end: End)
+fn start_node(ground: &Ground<'_>, search: &mut Search, ends: &Ends<'_>, top: TreeNode, end: End)
     requires ground { IsGround ground.now }
+    requires split { search.old.split < length (wave_of ground.now).splits }
     requires searching { IsSearching ground.now search.old }
     requires none { (v : TreeNode) → order_at search.old v ≡ 0 }
     requires known { IsNode (wave_of ground.now).tree end.node }
-    requires group { AreOf ground.now search.old.split (IsIn ends.now.barred) (Workers rack end.level) }
+    requires group { AreOf ground.now search.old.split (IsOutBy ground.now ends.now) (Below top end.level) }
     requires least { IsLeast (wave_of ground.now) (state_at ground.now) search.old.split search.old.least }
     ensures improves { Improves search.old search.new }
     ensures searching { IsSearching ground.now search.new }
-    ensures started { IsLeft (wave_of ground.now).tree (IsIn ends.now.barred) rack end.node
+    ensures started { IsLeft (wave_of ground.now).tree (IsOutBy ground.now ends.now) top end.node
         → IsStartedAt ground.now search.new end }
 {
-    if is_left(ground.problem.tree(), ends, rack, end.node) {
+    let cost = cost_below(ground, search.split, end);
+    if search.is_past(end.node, cost, search.least) {
+        return;
+    }
+    if is_left(ground.problem.tree(), ends, top, end.node) {
         start_at(ground, search, end);
     }
 }

@@ -11,14 +11,14 @@ ghost use Rattle.tree_planner.specs.Bars.{bar_at, holder_at, AreBars, AreMet, Is
 ghost use Rattle.node_ids.specs.Sets.{is_in_row};
 ghost use Rattle.tree_planner.specs.Bars.{top_of, IsLiveUnder, IsTopEnd};
 ghost use Rattle.tree_planner.specs.Bars.{HasEndFor};
-ghost use Rattle.tree_planner.specs.Ends.{ends_at, AreEnds, HasEnd, IsIn, IsLeft};
+ghost use Rattle.tree_planner.specs.Ends.{ends_at, AreEnds, HasEnd, IsBarred, IsLeft};
 ghost use Rattle.tree_planner.specs.Stored.{IsAdded};
 ghost use Rattle.tree_flow.specs.Nodes.{is_under, node_above, HasBarUnder, IsEnd, IsNode};
-ghost use Rattle.tree_planner.specs.Hanging.{AreChildren};
+ghost use Rattle.tree_planner.specs.Hanging.{AreChildren, HangsFrom};
 ghost use Rattle.tree_flow.specs.Table.{at_or, HasNode, IsOver, IsSized};
 
 use crate::children::Children;
-use crate::tree_nodes::{is_same, node_above};
+use crate::tree_nodes::{is_same, is_under, node_above, parent};
 use node_ids::{SplitNo, WorkerNo};
 use rack_tree::RackTree;
 use std::alloc::{AllocError, Global};
@@ -31,11 +31,11 @@ use wave_problem::Problem;
 pub enum Group {
     /// One end.
     Single(End),
-    /// The workers of this rack that are not barred, each as an end of this level.
-    Workers(u16, u8),
+    /// The nodes that hang from this one and are not left out, each as an end of this level.
+    Below(TreeNode, u8),
 }
 
-/// The ends of a split, in groups, which leave its barred workers out.
+/// The ends of a split, in groups, which leave out each node above one of its barred workers.
 #[derive(Drop)]
 pub struct Ends<'a> {
     groups: &'a [Group],
@@ -54,7 +54,7 @@ impl<'a> Model for Ends<'a> {
 }
 
 impl<'a> Ends<'a> {
-    // Ends that leave no worker out.
+    // Ends that leave no node out.
     fn unbarred(groups: &'a [Group]) -> Ends<'a>
         ensures { result ≡ record { groups = groups.now; barred = [] } }
     {
@@ -71,14 +71,38 @@ impl<'a> Ends<'a> {
         self.groups
     }
 
-    /// Whether the groups leave a worker out.
-    pub fn is_barred(&self, worker: WorkerNo) -> bool
+    // Whether a worker is barred.
+    fn has(&self, worker: WorkerNo) -> bool
         ensures { result ≡ is_in_row self.now.barred worker }
     {
         self.barred.binary_search(&worker).is_ok()
     }
 
-    /// The workers that the groups leave out, rising.
+    // Whether the groups leave a node out: whether a barred worker stands under it.
+    fn leave_out(&self, tree: &RackTree, node: TreeNode) -> bool
+        requires { IsNode tree.now node }
+        ensures { IsTrue result ↔ IsBarred tree.now self.now.barred node }
+    {
+        match node {
+            TreeNode::Worker(worker) => self.has(WorkerNo::new(worker)),
+            _ => self.have_under(tree, node),
+        }
+    }
+
+    // Whether a barred worker stands under a node.
+    fn have_under(&self, tree: &RackTree, node: TreeNode) -> bool
+        ensures { IsTrue result ↔ IsBarred tree.now self.now.barred node }
+    {
+        let workers = self.barred;
+        for worker in workers {
+            if worker.index() < tree.workers() && is_under(tree, *worker, node) {
+                return true;
+            }
+        }
+        false
+    }
+
+    /// The barred workers, rising.
     pub fn barred(&self) -> &'a [WorkerNo]
         ensures { result.now ≡ self.now.barred }
     {
@@ -126,6 +150,7 @@ impl OwnEnds {
         requires split { split < length problem.now.splits }
         ensures { IfOk result (λ ends. (e : End) → HasEnd problem.now.tree ends e ↔ IsEnd problem.now split e) }
     {
+        problem.limits();
         let groups = groups_of(alloc, problem, children, split)?;
         let barred = copied(alloc, problem.bars(split))?;
         Ok(OwnEnds { groups, barred })
@@ -229,17 +254,22 @@ impl AllEnds {
     }
 }
 
-/// Whether a node is a worker of the rack that the groups do not leave out.
-pub fn is_left(tree: &RackTree, ends: &Ends<'_>, rack: u16, node: TreeNode) -> bool
+/// Whether a node hangs from the top and is not left out by the groups.
+pub fn is_left(tree: &RackTree, ends: &Ends<'_>, top: TreeNode, node: TreeNode) -> bool
     requires { IsNode tree.now node }
-    ensures { IsTrue result ↔ IsLeft tree.now (IsIn ends.now.barred) rack node }
+    ensures { IsTrue result ↔ IsLeft tree.now (IsBarred tree.now ends.now.barred) top node }
+{
+    hangs(tree, top, node) && !ends.leave_out(tree, node)
+}
+
+// Whether a node hangs from the top.
+fn hangs(tree: &RackTree, top: TreeNode, node: TreeNode) -> bool
+    requires { IsNode tree.now node }
+    ensures { IsTrue result ↔ HangsFrom tree.now top node }
 {
     match node {
-        TreeNode::Worker(worker) => {
-            let worker = WorkerNo::new(worker);
-            tree.rack_of(worker).index() == rack as usize && !ends.is_barred(worker)
-        }
-        _ => false,
+        TreeNode::Cluster => false,
+        _ => is_same(parent(tree, node), top),
     }
 }
 
@@ -516,7 +546,7 @@ fn is_live_under(problem: &Problem, holder: WorkerNo, top: End) -> bool
     problem.is_live(holder) && is_same(node_above(problem.tree(), top.level, holder), top.node)
 }
 
-// An end at a node, or at the largest nodes under it without bars.
+// An end at a node, or groups of the largest nodes under it without bars.
 fn add_top(
     groups: &mut Vec<Group>,
     problem: &Problem,
@@ -536,19 +566,17 @@ fn add_top(
         groups.push(Group::Single(top))?;
         return Ok(());
     }
-    if let TreeNode::Rack(rack) = top.node {
-        groups.push(Group::Workers(rack, top.level))?;
+    groups.push(Group::Below(top.node, top.level))?;
+    if let TreeNode::Rack(_) = top.node {
         return Ok(());
     }
     for node in children.of(problem.tree(), top.node) {
-        let below = End {
-            node: *node,
-            level: top.level,
-        };
         if has_bar(bars, *node) {
+            let below = End {
+                node: *node,
+                level: top.level,
+            };
             add_top(groups, problem, children, bars, split, below)?;
-        } else {
-            groups.push(Group::Single(below))?;
         }
     }
     Ok(())

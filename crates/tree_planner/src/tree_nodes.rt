@@ -1,6 +1,9 @@
 //! Ways up the tree, and all of its nodes.
-ghost use Rattle.std.specs.Prelude.{◌≡◌, ◌<◌, ◌↔◌, length, IsTrue, IfOk, All, Contains};
-ghost use Rattle.tree_flow.specs.Nodes.{AreNodes, IsNode, node_above, parent};
+ghost use Rattle.std.specs.Prelude.{◌≡◌, ◌<◌, ◌↔◌, length, IsTrue, IfOk, All, Contains, true};
+ghost use Rattle.tree_flow.specs.declared.nodes.TreeNode.{TreeNode};
+ghost use Rattle.tree_flow.specs.declared.nodes.TreeNode.TheVariants.{Worker};
+ghost use Rattle.tree_flow.specs.Nodes.{AreNodes, IsNode, is_under, node_above, parent};
+ghost use Rattle.tree_planner.specs.Hanging.{HangsFrom};
 
 use node_ids::{RackNo, WorkerNo};
 use rack_tree::RackTree;
@@ -29,6 +32,35 @@ pub fn is_same(one: TreeNode, other: TreeNode) -> bool
     ensures { IsTrue result ↔ (one ≡ other) }
 {
     one == other
+}
+
+/// Whether a worker stands under a node.
+pub fn is_under(tree: &RackTree, worker: WorkerNo, node: TreeNode) -> bool
+    requires { worker < length tree.now.rack_of }
+    ensures { result ≡ is_under tree.now (Worker worker) node }
+{
+    let rack = tree.rack_of(worker);
+    match node {
+        TreeNode::Worker(other) => worker.index() == other as usize,
+        TreeNode::Rack(other) => rack.index() == other as usize,
+        TreeNode::Centre(centre) => tree.centre_of(rack).index() == centre as usize,
+        TreeNode::Cluster => true,
+    }
+}
+
+/// The node that hangs from the top and under which a worker stands. Where the worker does not stand under
+/// the top, the node hangs from another one.
+pub fn next_above(tree: &RackTree, top: TreeNode, worker: WorkerNo) -> TreeNode
+    requires { worker < length tree.now.rack_of }
+    ensures known { IsNode tree.now result }
+    ensures next { (v : TreeNode) → HangsFrom tree.now top v → is_under tree.now (Worker worker) v ≡ true
+        → result ≡ v }
+{
+    match top {
+        TreeNode::Cluster => node_above(tree, 2, worker),
+        TreeNode::Centre(_) => node_above(tree, 1, worker),
+        _ => node_above(tree, 0, worker),
+    }
 }
 
 /// The node so many levels above a worker.

@@ -1,7 +1,7 @@
 use Rattle.std.proofs.Common.{ℕ, ◌∙◌, ap, arith, get_or, length, subst, sym}
 use borrow.Author.Count.{below_more}
 use Rattle.tree_flow.specs.declared.nodes.End.{End}
-use Rattle.tree_planner.specs.Ends.{HasEnd, IsIn, IsOf}
+use Rattle.tree_planner.specs.Ends.{HasEnd, IsBarred, IsOf}
 use Rattle.tree_planner.specs.SearchingBack.{wave_of, IsInto}
 use Rattle.tree_planner.proofs.Covered.{of_group}
 use Rattle.tree_planner.proofs.Grouped.{all_among, first}
@@ -31,11 +31,11 @@ loop-group-preserved c =
       hole = c.over_group.ensures.hole ∙ c.loop-group.invariant.hole;
       searching = c.over_group.ensures.searching;
       improves = improves_trans c.args.search.now old new c.loop-group.invariant.improves i;
-      over = below_more (λ (k : ℕ). (x : End) → IsOf (wave_of h).tree (IsIn ends.barred)
+      over = below_more (λ (k : ℕ). (x : End) → IsOf (wave_of h).tree (IsBarred (wave_of h).tree ends.barred)
           (get_or ends.groups k first) x → IsInto h new c.args.node c.args.split x) c.loop-group.group-index
           (λ k l x of. into_kept old new i.nearer h c.args.node c.args.split x at.settled
           (c.loop-group.invariant.over k l x of))
-          (subst (λ groups. (x : End) → IsOf (wave_of h).tree (IsIn ends.barred)
+          (subst (λ groups. (x : End) → IsOf (wave_of h).tree (IsBarred (wave_of h).tree ends.barred)
           (get_or groups c.loop-group.group-index first) x → IsInto h new c.args.node c.args.split x)
           c.groups-group-items.ensures c.over_group.ensures.over);
     }
@@ -45,7 +45,7 @@ returns-clause-over c = λ x is.
     (let h = c.args.hollow.now in
     let ends = c.ends_of-ends.result in
     let size = ap length c.groups-group-items.ensures in
-    all_among (wave_of h).tree (IsIn ends.barred) ends.groups first
+    all_among (wave_of h).tree (IsBarred (wave_of h).tree ends.barred) ends.groups first
     (λ x. IsInto h c.loop-group.search c.args.node c.args.split x)
     (λ k l. c.loop-group.invariant.over k (omega arith)) x
     (subst (λ ends. HasEnd (wave_of h).tree ends x) (sym c.ends_of-ends.ensures)

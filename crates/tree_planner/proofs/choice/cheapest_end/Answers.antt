@@ -2,8 +2,8 @@ use Rattle.std.proofs.Common.{ℕ, ◌≤◌, ap, arith, get_or, length, subst, 
 use borrow.Author.Count.{below_more}
 use Rattle.tree_flow.specs.declared.nodes.End.{End}
 use Rattle.tree_flow.specs.State.{reach_cost}
-use Rattle.tree_planner.specs.Ends.{HasEnd, IsIn, IsOf}
-use Rattle.tree_planner.specs.Searching.{state_at, wave_of}
+use Rattle.tree_planner.specs.Ends.{HasEnd, IsOf}
+use Rattle.tree_planner.specs.Searching.{state_at, wave_of, IsOutBy}
 use Rattle.tree_planner.proofs.Grouped.{all_among, first}
 use Rattle.tree_planner.proofs.Covered.{group_ends}
 use Rattle.tree_planner.proofs.choice.cheapest_end.Goals as goal
@@ -20,12 +20,12 @@ loop-group-preserved c =
     record {
       cheapest = c.best_of-best.ensures.cheapest;
       ends = below_more (λ (k : ℕ). (x : End)
-          → IsOf (wave_of g).tree (IsIn c.ends_of-ends.result.barred)
+          → IsOf (wave_of g).tree (IsOutBy g c.ends_of-ends.result)
           (get_or c.ends_of-ends.result.groups k first) x
           → c.best_of-best.result.least ≤ reach_cost (wave_of g) (state_at g) c.args.split x) c.loop-group.group-index
           (λ k l x of. (let before = c.loop-group.invariant.ends k l x of in
           let less = c.best_of-best.ensures.before in omega arith))
-          (subst (λ groups. (x : End) → IsOf (wave_of g).tree (IsIn c.ends_of-ends.result.barred)
+          (subst (λ groups. (x : End) → IsOf (wave_of g).tree (IsOutBy g c.ends_of-ends.result)
           (get_or groups c.loop-group.group-index first) x
           → c.best_of-best.result.least ≤ reach_cost (wave_of g) (state_at g) c.args.split x)
           c.groups-group-items.ensures c.best_of-best.ensures.better);
@@ -35,7 +35,7 @@ pub returns-clause-ends : goal.returns-clause-ends
 returns-clause-ends c = λ x is.
     (let g = c.args.ground.now in
     let ends = c.ends_of-ends.result in
-    all_among (wave_of g).tree (IsIn ends.barred) ends.groups first
+    all_among (wave_of g).tree (IsOutBy g ends) ends.groups first
     (λ x. c.loop-group.best.least ≤ reach_cost (wave_of g) (state_at g) c.args.split x)
     (λ k l. (let size = ap length c.groups-group-items.ensures in c.loop-group.invariant.ends k (omega arith))) x
     (subst (λ ends. HasEnd (wave_of g).tree ends x) (sym c.ends_of-ends.ensures)

@@ -2,8 +2,8 @@ use Rattle.std.proofs.Common.{ℕ, ◌<◌, ◌≤◌, get_or}
 use Rattle.tree_flow.specs.declared.nodes.End.{End}
 use Rattle.tree_flow.specs.State.{reach_cost}
 use Rattle.tree_planner.specs.Choosing.{IsCheapest}
-use Rattle.tree_planner.specs.Ends.{IsIn, IsOf}
-use Rattle.tree_planner.specs.Searching.{state_at, wave_of}
+use Rattle.tree_planner.specs.Ends.{IsOf}
+use Rattle.tree_planner.specs.Searching.{state_at, wave_of, IsOutBy}
 use Rattle.tree_planner.proofs.Grouped.{first}
 use Rattle.tree_planner.proofs.choice.cheapest_end.Given as goal
 
@@ -11,6 +11,6 @@ abbrev pub invariant-loop-group : goal.invariant-loop-group
 invariant-loop-group l = record {
   cheapest : IsCheapest l.ground l.split l.best;
   ends : (k : ℕ) → k < l.group-index → (x : End)
-      → IsOf (wave_of l.ground).tree (IsIn l.ends.barred) (get_or l.ends.groups k first) x
+      → IsOf (wave_of l.ground).tree (IsOutBy l.ground l.ends) (get_or l.ends.groups k first) x
       → l.best.least ≤ reach_cost (wave_of l.ground) (state_at l.ground) l.split x;
 }

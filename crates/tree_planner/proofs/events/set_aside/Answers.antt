@@ -4,7 +4,7 @@ use Rattle.std.specs.Prelude.{slice_set}
 use Rattle.wave_problem.specs.Wave.{Wave}
 use Rattle.tree_flow.specs.Nodes.{IsEnd}
 use Rattle.tree_planner.specs.declared.engine.Fixed.{Fixed}
-use Rattle.tree_planner.specs.Ends.{AreEnds, HasEnd, IsIn}
+use Rattle.tree_planner.specs.Ends.{AreEnds, HasEnd, IsBarred}
 use Rattle.tree_planner.proofs.Grouped.{none_among}
 use Rattle.tree_planner.specs.Engine.{IsFixed, IsStanding}
 use Rattle.tree_planner.specs.Events.{with_pending}
@@ -16,7 +16,7 @@ returns-clause-none c = λ e is.
     (let wave = c.args.problem.now in
     let has = (none_ends wave c.args.split c.requires.split e).1
     (subst (λ (w : Wave). IsEnd w c.args.split e) c.set_pending.ensures is) in
-    none_among wave.tree (IsIn []) e has)
+    none_among wave.tree (IsBarred wave.tree []) e has)
 
 pub returns-clause-fixed : goal.returns-clause-fixed
 returns-clause-fixed c =

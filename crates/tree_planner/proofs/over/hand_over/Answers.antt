@@ -2,9 +2,9 @@ use Rattle.std.proofs.Common.{ℕ, ◌+◌, ◌≤◌, ◌∙◌, ap, arith, get
 use borrow.Author.Count.{below_more}
 use Rattle.wave_problem.specs.Wave.{reward}
 use Rattle.tree_flow.specs.declared.nodes.End.{End}
-use Rattle.tree_planner.specs.Ends.{HasEnd, IsIn, IsOf}
+use Rattle.tree_planner.specs.Ends.{HasEnd, IsOf}
 use Rattle.tree_flow.specs.State.{reach_cost}
-use Rattle.tree_planner.specs.Searching.{far_at, state_at, wave_of, IsOverTo}
+use Rattle.tree_planner.specs.Searching.{far_at, state_at, wave_of, IsOutBy, IsOverTo}
 use Rattle.tree_planner.proofs.Improved.{at_kept, improves_trans}
 use Rattle.tree_planner.proofs.Covered.{group_ends, leaving_kept}
 use Rattle.tree_planner.proofs.Grouped.{all_among, first}
@@ -74,11 +74,11 @@ loop-group-preserved c =
         spent = c.cost_at-spent.result;
       }) leaving;
       out = (let before = c.loop-group.invariant.out in omega arith);
-      over = below_more (λ (k : ℕ). (x : End) → IsOf (wave_of g).tree (IsIn ends.barred)
+      over = below_more (λ (k : ℕ). (x : End) → IsOf (wave_of g).tree (IsOutBy g ends)
           (get_or ends.groups k first) x → IsOverTo g new c.args.end c.args.split x) c.loop-group.group-index
           (λ k l x of. (let before = c.loop-group.invariant.over k l x of in
           let far = i.nearer.far x.node in omega arith))
-          (subst (λ groups. (x : End) → IsOf (wave_of g).tree (IsIn ends.barred)
+          (subst (λ groups. (x : End) → IsOf (wave_of g).tree (IsOutBy g ends)
           (get_or groups c.loop-group.group-index first) x → IsOverTo g new c.args.end c.args.split x)
           c.groups-group-items.ensures c.over_group.ensures.over);
     }
@@ -93,7 +93,7 @@ returns-clause-over c =
       over = λ e x stands is is_end.
           (let same = stands_same (state_at g) c.args.split c.args.end e c.requires.stands stands in
           subst (λ e. IsOverTo g search e c.args.split x) same
-          (all_among (wave_of g).tree (IsIn ends.barred) ends.groups first
+          (all_among (wave_of g).tree (IsOutBy g ends) ends.groups first
           (λ x. IsOverTo g search c.args.end c.args.split x)
           (λ k l. c.loop-group.invariant.over k (omega arith)) x
           (subst (λ ends. HasEnd (wave_of g).tree ends x) (sym c.ends_of-ends.ensures)

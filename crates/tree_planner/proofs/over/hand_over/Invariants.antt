@@ -2,8 +2,8 @@ use Rattle.std.proofs.Common.{ℕ, ◌+◌, ◌<◌, ◌≤◌, get_or}
 use Rattle.wave_problem.specs.Wave.{reward}
 use Rattle.tree_flow.specs.declared.nodes.End.{End}
 use Rattle.tree_flow.specs.State.{reach_cost}
-use Rattle.tree_planner.specs.Ends.{IsIn, IsOf}
-use Rattle.tree_planner.specs.Searching.{far_at, state_at, wave_of, Improves, IsLeaving, IsOverTo, IsSearching}
+use Rattle.tree_planner.specs.Ends.{IsOf}
+use Rattle.tree_planner.specs.Searching.{far_at, state_at, wave_of, Improves, IsLeaving, IsOutBy, IsOverTo, IsSearching}
 use Rattle.tree_planner.proofs.Grouped.{first}
 use Rattle.tree_planner.proofs.over.hand_over.Given as goal
 
@@ -15,6 +15,6 @@ invariant-loop-group l = record {
   out : l.search.bound + reach_cost (wave_of l.ground) (state_at l.ground) l.leaving.split l.leaving.end
       ≤ far_at l.search l.leaving.end.node + reward (wave_of l.ground);
   over : (k : ℕ) → k < l.group-index → (x : End)
-      → IsOf (wave_of l.ground).tree (IsIn l.ends.barred) (get_or l.ends.groups k first) x
+      → IsOf (wave_of l.ground).tree (IsOutBy l.ground l.ends) (get_or l.ends.groups k first) x
       → IsOverTo l.ground l.search l.leaving.end l.leaving.split x;
 }

@@ -1,11 +1,30 @@
-use Rattle.std.proofs.Common.{subst}
+use Rattle.std.proofs.Common.{arith, subst}
 use Rattle.rack_tree.specs.Tree.{Tree}
-use Rattle.tree_planner.specs.Ends.{IsIn, IsLeft}
+use Rattle.tree_planner.specs.Ends.{IsBarred, IsLeft}
+use Rattle.tree_planner.specs.Searching.{IsOutBy}
 use Rattle.tree_planner.proofs.Covered.{left_end}
 use Rattle.tree_planner.proofs.over.over_node.Goals as goal
 
+pub is_past-requires-clause-small : goal.is_past-requires-clause-small
+is_past-requires-clause-small c =
+    let m = c.args.leaving in
+    let spent = c.requires.leaving.spent in
+    let below = c.requires.ground.kept.cheapest.below_waiting m.split m.end c.requires.leaving.stands in
+    let small = c.requires.ground.small in
+    let bound = c.requires.searching.bound in
+    let limit = c.requires.searching.limit in
+    omega arith
+
+pub returns-then-is_past-clause-over : goal.returns-then-is_past-clause-over
+returns-then-is_past-clause-over c = λ left.
+    (let past = c.is_past.ensures c.if-is_past.true in
+    let cost = c.cost_below.ensures.cost in
+    let far = c.requires.leaving.far in
+    let spent = c.requires.leaving.spent in
+    omega arith)
+
 pub over_to-requires-clause-is_end : goal.over_to-requires-clause-is_end
 over_to-requires-clause-is_end c =
-    left_end c.args.ground.now c.args.leaving.split (IsIn c.args.ends.now.barred) c.args.rack c.args.end.level
-    c.requires.group c.args.end.node (subst (λ (t : Tree). IsLeft t (IsIn c.args.ends.now.barred) c.args.rack c.args.end.node)
+    left_end c.args.ground.now c.args.leaving.split (IsOutBy c.args.ground.now c.args.ends.now) c.args.top c.args.end.level
+    c.requires.group c.args.end.node (subst (λ (t : Tree). IsLeft t (IsBarred t c.args.ends.now.barred) c.args.top c.args.end.node)
     c.tree.ensures.tree (c.is_left.ensures.0 c.if-is_left.true))

@@ -1,9 +1,10 @@
-use Rattle.std.proofs.Common.{◌++◌, ◌∷◌, [], ◌∙◌, ℕ, ap, length, arith, sym, subst}
+use Rattle.std.proofs.Common.{◌++◌, ◌∷◌, [], ◌∙◌, ap, length, arith, sym, subst}
 use Rattle.std.proofs.lemmas.Bool.{eqb-true, false≢true}
-use Rattle.node_ids.specs.Sets.{HasPair}
+use Rattle.tree_flow.specs.declared.nodes.TreeNode.{TreeNode}
+use Rattle.tree_flow.specs.Nodes.{HasBarUnder}
 use Rattle.tree_planner.proofs.Barred.{at_in_row}
 use Rattle.tree_planner.proofs.Grouped.{among_same}
-use Rattle.tree_planner.specs.Ends.{IsIn}
+use Rattle.tree_planner.specs.Ends.{IsBarred, IsIn}
 use Rattle.tree_planner.proofs.split_ends.add_ends.Goals as goal
 
 pub returns : goal.returns
@@ -11,9 +12,9 @@ returns c =
     let wave = c.args.problem.now in
     let s = c.args.split in
     let groups = c.unbarred_groups.new.groups.items in
-    let unbarred : (w : ℕ) → HasPair wave.barred s w → ⊥ =
-    (λ w pair.
-    let there = at_in_row c.bars.result.now w (subst (λ row. IsIn row w) (sym c.bars.ensures.row) pair) in
+    let unbarred : (v : TreeNode) → HasBarUnder wave s v → ⊥ =
+    (λ v bar.
+    let there = at_in_row c.bars.result.now bar.0 (subst (λ row. IsIn row bar.0) (sym c.bars.ensures.row) bar.3) in
     let few = there.1 in
     let none = eqb-true (length c.bars.result.now) 0 (sym c.is_empty.ensures ∙ c.if-not-is_empty.false) in
     absurd (omega arith)) in
@@ -22,9 +23,9 @@ returns c =
       items = c.in_ok-share.ensures ∙ ap (λ xs. c.args.all.now ++ record { groups = xs; barred = [] } ∷ [])
           c.deref.ensures.value;
       same = λ e. (
-        λ has. (c.in_ok-unbarred_groups.ensures e).0 (among_same wave.tree (IsIn []) (HasPair wave.barred s)
-            (λ w known pair. absurd (unbarred w pair)) groups e has),
-        λ is. among_same wave.tree (HasPair wave.barred s) (IsIn [])
-            (λ w known out. absurd (false≢true out)) groups e ((c.in_ok-unbarred_groups.ensures e).1 is),
+        λ has. (c.in_ok-unbarred_groups.ensures e).0 (among_same wave.tree (IsBarred wave.tree []) (HasBarUnder wave s)
+            (λ v known bar. absurd (unbarred v bar)) groups e has),
+        λ is. among_same wave.tree (HasBarUnder wave s) (IsBarred wave.tree [])
+            (λ v known out. absurd (false≢true out.3)) groups e ((c.in_ok-unbarred_groups.ensures e).1 is),
       );
     }

@@ -2,7 +2,7 @@ use Rattle.std.proofs.Common.{◌∙◌, ap, refl}
 use Rattle.node_ids.specs.Sets.{is_in_row}
 use Rattle.node_ids.proofs.Rows.{in-found, is_found}
 use Rattle.tree_planner.specs.Ends.{Grouped}
-use Rattle.tree_planner.proofs.split_ends.Ends.is_barred.Goals as goal
+use Rattle.tree_planner.proofs.split_ends.Ends.has.Goals as goal
 
 pub returns : goal.returns
 returns c =
