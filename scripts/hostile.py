@@ -86,6 +86,8 @@ WIDE = head("problem", WORKERS, SPLITS)
 SCRIPT = head("script", ["a", "b"], ["s", "t"]) + "begin\n"
 WIDE_SCRIPT = head("script", WORKERS, SPLITS) + "begin\n"
 JOB = head("job", ["a"], ["s"])
+HOLDERS = [f"w{number}" for number in range(4096)]
+WIDER = lines("problem 3", "centre c", "rack r c", *(f"worker {it} r 1" for it in HOLDERS))
 
 
 class Hostile:
@@ -97,31 +99,27 @@ class Hostile:
         self.memory, self.instructions = memory * MEGABYTE, instructions
 
 
-def joins(size):
-    """Joins of 1,024 splits each, and a line that has a fault. (Each name of a join is compared with all before it, so
-    these texts are short.)"""
-    return late(WIDE_SCRIPT, commands(" ".join(["join w0", *SPLITS])))(min(size, 131_072))
-
-
 SWEEP = " ".join(["sweep", *["1"] * len(WORKERS)])
+JOIN = " ".join(["join w0", *SPLITS])
 
 
 ALL = [
     Hostile("one long word", "plan", 1, lambda size: "a" * (size - 1) + "\n", 4, 30),
     Hostile("no line feed", "plan", 12, lambda size: "a" * size, 4, 15),
     Hostile("words where none may be", "plan", 1, one_line(f"{PLAIN}end", ["a"]), 4, 15),
-    Hostile("one holder over and over", "plan", 6, one_line(f"{PLAIN}split s 1", ["a"]), 4, 310),
-    Hostile("two holders in turn", "plan", 6, one_line(f"{PLAIN}split s 1", ["a", "b"]), 4, 310),
-    Hostile("256 holders in turn", "plan", 6, one_line(f"{WIDE}split x 1", WORKERS), 4, 190),
-    Hostile("holders that nobody declared", "plan", 3, different(f"{PLAIN}split s 1"), 4, 40),
-    Hostile("one split over and over", "play", 8, one_line(f"{SCRIPT}join a", ["s"]), 4, 310),
-    Hostile("two splits in turn", "play", 8, one_line(f"{SCRIPT}join a", ["s", "t"]), 4, 310),
-    Hostile("1,024 splits in turn", "play", 8, one_line(f"{WIDE_SCRIPT}join w0", SPLITS), 4, 250),
-    Hostile("splits that nobody declared", "play", 3, different(f"{SCRIPT}join a"), 4, 40),
+    Hostile("one holder over and over", "plan", 6, one_line(f"{PLAIN}split s 1", ["a"]), 4, 110),
+    Hostile("two holders in turn", "plan", 6, one_line(f"{PLAIN}split s 1", ["a", "b"]), 4, 110),
+    Hostile("256 holders in turn", "plan", 6, one_line(f"{WIDE}split x 1", WORKERS), 4, 95),
+    Hostile("4,096 holders in turn", "plan", 6, one_line(f"{WIDER}split x 1", HOLDERS), 4, 225),
+    Hostile("holders that nobody declared", "plan", 3, different(f"{PLAIN}split s 1"), 4, 60),
+    Hostile("one split over and over", "play", 8, one_line(f"{SCRIPT}join a", ["s"]), 4, 110),
+    Hostile("two splits in turn", "play", 8, one_line(f"{SCRIPT}join a", ["s", "t"]), 4, 110),
+    Hostile("1,024 splits in turn", "play", 8, one_line(f"{WIDE_SCRIPT}join w0", SPLITS), 4, 185),
+    Hostile("splits that nobody declared", "play", 3, different(f"{SCRIPT}join a"), 4, 60),
     Hostile("counts of nobody", "play", 1, one_line(f"{SCRIPT}sweep", ["1"]), 4, 15),
-    Hostile("a fault behind sweeps", "play", 1, late(WIDE_SCRIPT, commands(SWEEP)), 150, 130),
-    Hostile("a fault behind joins", "play", 1, joins, 15, 5_500),
-    Hostile("a fault behind commands", "play", 1, late(SCRIPT, commands("done 1000000")), 12, 150),
+    Hostile("a fault behind sweeps", "play", 1, late(WIDE_SCRIPT, commands(SWEEP)), 6, 130),
+    Hostile("a fault behind joins", "play", 1, late(WIDE_SCRIPT, commands(JOIN)), 4, 185),
+    Hostile("a fault behind commands", "play", 1, late(SCRIPT, commands("done 1000000")), 8, 150),
     Hostile("a fault behind barred pairs", "plan", 1, late(WIDE, barred_pairs), 45, 400),
     Hostile("a fault behind documents", "run", 1, late(JOB, documents), 15, 30),
 ]

@@ -20,3 +20,4 @@ pub mod Crowded
 pub mod Longer
 pub mod Worded
 pub mod Worst
+pub mod Numbered

@@ -1,5 +1,7 @@
 -- Lines with more words than lines of their keyword may have.
-use Rattle.std.specs.Prelude.{ℕ, zero, suc, List, ◌+◌, ◌≡◌, ◌≤◌, Option, Some, None, length}
+use Rattle.std.specs.Prelude.{ℕ, zero, suc, List, ◌+◌, ◌≡◌, ◌≤◌, ◌<◌, Option, Some, None, length}
+use Rattle.std.specs.Prelude.{slice_index_or}
+use Rattle.std.specs.Borrow.{Bor}
 use Rattle.std.specs.List.{All}
 use Rattle.text_lines.specs.Texts.{Word}
 use Rattle.text_lines.specs.declared.fault.Fault.{Fault}
@@ -39,6 +41,11 @@ HasFirst (suc zero) version rows place w = HasShape place w
 HasFirst (suc (suc zero)) version rows place w = HasShape place w × MeetsDemand (name_demand version) place w
 HasFirst (suc (suc (suc n))) version rows place w =
     HasShape place w × MeetsDemand (name_demand version) place w × IsDeclaredIn rows place w
+
+-- each of these words has the first so many, as far as this number
+abbrev pub HaveFirst : Version → List Statement → Option Place → ℕ → List (Bor (List ℕ)) → Type 0
+HaveFirst version rows place least ws = (k : ℕ) (d : Bor (List ℕ)) → k < length ws
+    → (n : ℕ) → n ≤ 3 → n ≤ least → HasFirst n version rows place (slice_index_or ws k d).now
 
 -- names may follow the places
 abbrev pub IsUsed : Option Place → Type 0

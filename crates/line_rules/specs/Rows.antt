@@ -1,5 +1,5 @@
 -- What the code keeps of the rows: the lines, the places of each keyword's lines, the tables of their keys.
-use Rattle.std.specs.Prelude.{ℕ, List, [], ◌≡◌, ◌≤◌, ◌<◌, ◌-◌, ◌⊎◌, ◌↔◌, ◌&&◌, Bool, Option, Some, drop}
+use Rattle.std.specs.Prelude.{ℕ, List, [], ◌∷◌, ◌≡◌, ◌≤◌, ◌<◌, ◌-◌, ◌⊎◌, ◌↔◌, ◌&&◌, Bool, Option, Some, drop}
 use Rattle.std.specs.Prelude.{length, map, take}
 use Rattle.std.specs.List.{All, Contains, slice_index_or}
 use Rattle.std.specs.Borrow.{Bor}
@@ -7,9 +7,12 @@ use Rattle.std.specs.Map.{lookup}
 use Rattle.std.specs.Option.{IsSome}
 use Rattle.std.specs.Str.{bytes_eq}
 use Rattle.text_lines.specs.Texts.{Word}
-use Rattle.line_shapes.specs.Lines.{Statement}
+use Rattle.line_shapes.specs.Lines.{Statement, words_after}
 use Rattle.line_shapes.specs.contracts.keyword.Keyword.{the_type}
 use Rattle.line_shapes.specs.declared.keyword.Keyword.{Keyword}
+use Rattle.line_rules.specs.declared.command_list.CommandText.{CommandText}
+use Rattle.line_rules.specs.declared.command_list.CommandWords.{CommandWords}
+use Rattle.line_rules.specs.declared.command_list.CommandWords.TheVariants as kept
 use Rattle.line_rules.specs.declared.line_list.LinePlace.{LinePlace}
 use Rattle.line_rules.specs.Entering.{Key}
 use Rattle.line_rules.specs.Known.{HasNumber, keys_of, rows_of}
@@ -28,6 +31,16 @@ statement_at words p = record { keyword = p.keyword; words = map (λ w. w.now) (
 -- each place is one among the words
 abbrev pub AreWithin : List (Bor (List ℕ)) → List LinePlace → Type 0
 AreWithin words ps = All (λ p. (p.start ≤ p.end) × (p.end ≤ length words)) ps
+
+-- the words of a command of this keyword, as they are kept
+abbrev pub words_kept : Keyword → CommandWords → List Word
+words_kept k kept.Zero = []
+words_kept k (kept.One a) = a.now ∷ []
+words_kept k (kept.Two a b) = a.now ∷ b.now ∷ []
+words_kept k (kept.Text rest) = words_after k rest
+
+abbrev pub command_in : CommandText → Statement
+command_in c = record { keyword = c.keyword; words = words_kept c.keyword c.words }
 
 -- ---- the places of the rows of each keyword
 

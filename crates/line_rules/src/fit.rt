@@ -1,7 +1,8 @@
-ghost use Rattle.std.specs.Prelude.{◌≡◌, List, IsTrue, slice_get};
+ghost use Rattle.std.specs.Prelude.{◌≡◌, ◌<◌, List, IsTrue, length, slice_get};
 ghost use Rattle.text_lines.specs.Texts.{Word};
-ghost use Rattle.line_shapes.specs.Lines.{Statement, stated};
+ghost use Rattle.line_shapes.specs.Lines.{HasTailApart, Statement, stated};
 ghost use Rattle.line_shapes.specs.Places.{or_more};
+ghost use Rattle.line_shapes.specs.declared.keyword.Keyword.TheVariants.{Join};
 ghost use Rattle.line_rules.specs.Entered.{AreFit, IsFitIn};
 ghost use Rattle.line_rules.specs.Known.{HasRow, IsDeclared, IsTaken};
 ghost use Rattle.line_rules.specs.Names.{IsNameOf};
@@ -10,6 +11,9 @@ use crate::edition::{Version, is_name_of};
 use crate::rows::Rows;
 use crate::rules::is_free;
 use line_shapes::{Keyword, Kind, Place, is_within};
+
+// A line of more words than so many is one of many splits.
+const MANY: usize = 8;
 
 /// Whether each word after the keyword is fit for its place in a text of the version, by one pass over the
 /// words. Most lines are fit; which fault another line has, if any, other tests find.
@@ -25,6 +29,32 @@ pub fn are_fit(rows: &Rows<'_>, version: Version, keyword: Keyword, words: &[&st
         }
     }
     true
+}
+
+/// The same of a line of many splits, and whether no split stands twice there: each is looked up once. False
+/// is answered of every other line.
+pub fn are_fit_splits(rows: &Rows<'_>, version: Version, keyword: Keyword, words: &[&str]) -> bool
+    ensures fit { IsTrue result → AreFit version rows.now (stated keyword words.now) }
+    ensures apart { IsTrue result → HasTailApart (stated keyword words.now) }
+{
+    if words.len() <= MANY {
+        return false;
+    }
+    match keyword {
+        Keyword::Join => are_fit_in_join(rows, version, words),
+        _ => false,
+    }
+}
+
+fn are_fit_in_join(rows: &Rows<'_>, version: Version, words: &[&str]) -> bool
+    requires { 0 < length words.now }
+    ensures fit { IsTrue result → AreFit version rows.now (stated Join words.now) }
+    ensures apart { IsTrue result → HasTailApart (stated Join words.now) }
+{
+    if !is_fit(rows, version, Some(Place::Used(Kind::Worker)), words[0]) {
+        return false;
+    }
+    rows.are_splits_apart(&words[1..])
 }
 
 #[inline(always)]

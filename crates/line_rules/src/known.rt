@@ -1,7 +1,7 @@
 ghost use Rattle.std.specs.Prelude.{◌≡◌, ◌≢◌, ◌++◌, ◌≤◌, ◌↔◌, IfOk, IsTrue, MatchOption, OnErr, OnOk, Some};
 ghost use Rattle.std.specs.Prelude.{length, slice_index_or, ◌<◌, []};
 ghost use Rattle.text_lines.specs.Texts.{number_of, IsNumber};
-ghost use Rattle.line_shapes.specs.Lines.{statement_of, IsInRange, Statement};
+ghost use Rattle.line_shapes.specs.Lines.{statement_of, HasTailApart, IsInRange, Statement, words_after};
 ghost use Rattle.line_shapes.specs.Places.{places_of};
 ghost use Rattle.line_rules.specs.Entering.{command_of, entered_of, entering_of as entering};
 ghost use Rattle.line_rules.specs.Entering.{most_of as most_in};
@@ -19,9 +19,9 @@ ghost use Rattle.line_rules.specs.Sections.{section_of as section_in};
 ghost use Rattle.line_rules.specs.declared.rule.Rule.TheVariants as rule;
 ghost use Rattle.line_rules.specs.declared.section.Section.TheVariants.{Body};
 
+use crate::command_list::CommandList;
 use crate::edition::{Version, is_of_version, name_demand, version_after};
 use crate::entering::{Entering, Follow, entering_of, follow_of, most_of};
-use crate::line_list::LineList;
 use crate::purpose::Purpose;
 use crate::rows::Rows;
 use crate::rule::Rule;
@@ -48,7 +48,7 @@ pub struct KnownLines<'t> {
     version: Version,
     section: Section,
     rows: Rows<'t>,
-    commands: LineList<'t>,
+    commands: CommandList<'t>,
 }
 
 // (one call wherever it is dropped)
@@ -91,14 +91,13 @@ impl<'t> KnownLines<'t> {
             MOST_ROOM.min(bytes / BYTES_OF_A_LINE),
             MOST_ROOM.min(bytes / BYTES_OF_A_WORD),
         );
-        let commands = LineList::with_room(alloc, 0, 0)?;
         let rows = Rows::with_room(alloc, lines, words)?;
         Ok(KnownLines {
             purpose,
             version: Version::One,
             section: Section::First,
             rows,
-            commands,
+            commands: CommandList::new(alloc),
         })
     }
 
@@ -131,7 +130,7 @@ impl<'t> KnownLines<'t> {
     }
 
     /// The commands of a script, in their order.
-    pub fn commands(&self) -> &LineList<'t>
+    pub fn commands(&self) -> &CommandList<'t>
         ensures { result.now ≡ self.now.commands }
     {
         &self.commands
@@ -227,10 +226,12 @@ impl<'t> KnownLines<'t> {
         }
     }
 
-    /// The least fault of a line after these, if it has one. `fit` says that its words are known to be fit.
-    pub fn fault_of(&self, fit: bool, line: &KeyedLine<'_, '_>) -> Option<Fault>
+    /// The least fault of a line after these, if it has one. `fit` says that its words are known to be fit, and
+    /// `apart` that no name is known to stand twice where it may not.
+    pub fn fault_of(&self, fit: bool, apart: bool, line: &KeyedLine<'_, '_>) -> Option<Fault>
         requires places { length (places_of line.now.keyword) ≤ length line.now.words.now }
         requires fit { IsTrue fit → AreFit self.now.version self.now.rows (statement_of line.now) }
+        requires apart { IsTrue apart → HasTailApart (statement_of line.now) }
         ensures { MatchOption result (IsFit self.now (statement_of line.now))
             (IsLeastOf (Fails self.now (statement_of line.now))) }
     {
@@ -249,7 +250,7 @@ impl<'t> KnownLines<'t> {
             Some(Fault::OutOfRange)
         } else if !self.is_within_limit(line) {
             Some(Fault::PassesLimit)
-        } else if !line.has_tail_apart() {
+        } else if !is_apart(apart, line) {
             Some(Fault::RepeatedHolder)
         } else if !self.is_once(after, line) {
             Some(Fault::SecondEntry)
@@ -260,13 +261,18 @@ impl<'t> KnownLines<'t> {
         }
     }
 
-    /// Takes one line more. After an error it was not taken.
-    pub fn enter(&mut self, line: &KeyedLine<'_, 't>) -> Result<(), AllocError>
-        requires { IsFit self.old (statement_of line.now) }
+    /// Takes one line more; `rest` is what follows the space after its keyword. After an error it was not taken.
+    pub fn enter(
+        &mut self,
+        line: &KeyedLine<'_, 't>,
+        rest: Option<&'t str>,
+    ) -> Result<(), AllocError>
+        requires fit { IsFit self.old (statement_of line.now) }
+        requires rest { (statement_of line.now).words ≡ words_after line.now.keyword rest }
         ensures ok { OnOk result (self.new ≡ entered self.old (statement_of line.now)) }
         ensures err { OnErr result (self.new ≡ self.old) }
     {
-        put(line, &mut self.rows, &mut self.commands)?;
+        put(line, rest, &mut self.rows, &mut self.commands)?;
         self.version = version_after(self.version, line);
         self.section = section_after(line.keyword);
         Ok(())
@@ -287,6 +293,15 @@ fn keeps(fit: bool, rule: Rule, rows: &Rows<'_>, line: &KeyedLine<'_, '_>) -> bo
     ensures { IsTrue result ↔ Keep rule rows.now (statement_of line.now) }
 {
     fit || keep(rule, rows, line)
+}
+
+// Whether no name stands twice where it may not.
+fn is_apart(apart: bool, line: &KeyedLine<'_, '_>) -> bool
+    requires places { length (places_of line.now.keyword) ≤ length line.now.words.now }
+    requires apart { IsTrue apart → HasTailApart (statement_of line.now) }
+    ensures { IsTrue result ↔ HasTailApart (statement_of line.now) }
+{
+    apart || line.has_tail_apart()
 }
 
 // How many centres a rack names in a text of the version.
@@ -347,16 +362,18 @@ fn is_at_most(line: &KeyedLine<'_, '_>, place: usize, most: u64) -> bool
 // Puts a line where lines of its keyword are entered. After an error it was not put.
 fn put<'t>(
     line: &KeyedLine<'_, 't>,
+    rest: Option<&'t str>,
     rows: &mut Rows<'t>,
-    commands: &mut LineList<'t>,
+    commands: &mut CommandList<'t>,
 ) -> Result<(), AllocError>
-    requires { entering line.now.keyword ≢ Nothing → IsFirst rows.old (statement_of line.now) }
+    requires first { entering line.now.keyword ≢ Nothing → IsFirst rows.old (statement_of line.now) }
+    requires rest { (statement_of line.now).words ≡ words_after line.now.keyword rest }
     ensures rows { OnOk result (rows.new ≡ rows.old ++ entered_of (statement_of line.now)) }
     ensures commands { OnOk result (commands.new ≡ commands.old ++ command_of (statement_of line.now)) }
     ensures err { OnErr result ((rows.new ≡ rows.old) × (commands.new ≡ commands.old)) }
 {
     match entering_of(line.keyword) {
-        Entering::InTurn => commands.push(line),
+        Entering::InTurn => commands.push(line, rest),
         Entering::Nothing | Entering::Alone | Entering::Word | Entering::Pair => rows.enter(line),
     }
 }

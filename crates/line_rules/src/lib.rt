@@ -14,6 +14,7 @@
 #![tactic(auto)]
 
 pub mod answer;
+pub mod command_list;
 pub mod edition;
 pub mod entering;
 mod fit;
@@ -29,6 +30,7 @@ pub mod rules;
 pub mod section;
 
 pub use answer::fault_answer;
+pub use command_list::CommandList;
 pub use edition::{Edition, Version};
 pub use entering::{Entering, Follow};
 pub use known::KnownLines;

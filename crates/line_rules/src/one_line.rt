@@ -1,14 +1,14 @@
 ghost use Rattle.std.specs.Prelude.{◌≡◌, All, Err, IfErr, IfOk, IsTrue, MatchOption, map};
 ghost use Rattle.text_lines.specs.Texts.{IsPrintable};
 ghost use Rattle.line_shapes.specs.Demands.{Meet};
-ghost use Rattle.line_shapes.specs.Lines.{IsShaped, stated, statement_of};
+ghost use Rattle.line_shapes.specs.Lines.{IsShaped, stated, statement_of, words_after};
 ghost use Rattle.line_shapes.specs.declared.demand.Demand.TheVariants.{Shape};
 ghost use Rattle.line_rules.specs.Faults.{IsFit, IsLeastOf};
 ghost use Rattle.line_rules.specs.Long.{WordsHave};
 ghost use Rattle.line_rules.specs.Reading.{HasKeyword, IsFitLine, IsLeastError};
 ghost use Rattle.line_rules.specs.Texts.{LineHas};
 
-use crate::fit::are_fit;
+use crate::fit::{are_fit, are_fit_splits};
 use crate::known::KnownLines;
 use crate::line_reader::{LineError, is_ended};
 use crate::long::cut_most;
@@ -26,19 +26,22 @@ pub fn fit_line<'w, 'l>(
     ensures err { IfErr result (IsLeastError (LineHas known.now line.entry.now)) }
     ensures memory { result ≡ Err LineError.Memory → HasKeyword known.now line.entry.now }
 {
-    fit_line_in(words, false, line, known)
+    let (said, _) = fit_line_in(words, false, line, known)?;
+    Ok(said)
 }
 
-// The same. `printable` says that all bytes of the line are known to be printable.
+// The same, and what follows the space after the keyword. `printable` says that all bytes of the line are known to
+// be printable.
 #[inline(always)]
 pub(crate) fn fit_line_in<'w, 'l>(
     words: &'w mut Vec<&'l str>,
     printable: bool,
     line: &'l [u8],
     known: &KnownLines<'_>,
-) -> Result<KeyedLine<'w, 'l>, LineError>
+) -> Result<(KeyedLine<'w, 'l>, Option<&'l str>), LineError>
     requires { IsTrue printable → All IsPrintable line.now }
-    ensures ok { IfOk result (λ said. IsFitLine known.now line.entry.now (statement_of said)) }
+    ensures ok { IfOk result (λ said. IsFitLine known.now line.entry.now (statement_of said.0)) }
+    ensures rest { IfOk result (λ said. (statement_of said.0).words ≡ words_after said.0.keyword said.1) }
     ensures err { IfErr result (IsLeastError (LineHas known.now line.entry.now)) }
     ensures memory { result ≡ Err LineError.Memory → HasKeyword known.now line.entry.now }
 {
@@ -53,7 +56,7 @@ pub(crate) fn fit_line_in<'w, 'l>(
     };
     cut_most(known, keyword, rest, words)?;
     match fit_words(keyword, words.as_slice(), known) {
-        Ok(said) => Ok(said),
+        Ok(said) => Ok((said, rest)),
         Err(fault) => Err(LineError::Fault(fault)),
     }
 }
@@ -69,9 +72,10 @@ fn fit_words<'w, 'l>(
     ensures fit { IfOk result (λ line. IsFit known.now (statement_of line)) }
     ensures err { IfErr result (IsLeastOf (WordsHave known.now keyword (map (λ w. w.now) words.entry.now))) }
 {
-    let fit = are_fit(known.rows(), known.version(), keyword, words);
+    let apart = are_fit_splits(known.rows(), known.version(), keyword, words);
+    let fit = apart || are_fit(known.rows(), known.version(), keyword, words);
     match said(fit, keyword, words) {
-        Some(line) => match known.fault_of(fit, &line) {
+        Some(line) => match known.fault_of(fit, apart, &line) {
             Some(fault) => Err(fault),
             None => Ok(line),
         },

@@ -1,11 +1,14 @@
 ghost use Rattle.std.specs.Prelude.{◌≡◌, ◌++◌, ◌∷◌, ◌↔◌, ◌≤◌, ◌<◌, IsTrue, MatchOption, OnErr, OnOk, []};
 ghost use Rattle.std.specs.Prelude.{Contains, IfOk, IsSome, None, Ok, Some, ℕ, false, length, map, replicate};
 ghost use Rattle.std.specs.Prelude.{true};
-ghost use Rattle.std.specs.Prelude.{List, ◌≢◌};
+ghost use Rattle.std.specs.Prelude.{List, ◌≢◌, IfSome, slice_index_or};
+ghost use Rattle.std.specs.List.{AllPairs};
+ghost use Rattle.std.specs.Borrow.{Bor};
 ghost use Rattle.line_rules.specs.Rows.{AreTabled, ArePlaced, HasKeyMore, IsKeyAt, IsNewKey, IsRowAt, Others};
 ghost use Rattle.line_rules.specs.Rows.{first_by};
 ghost use Rattle.line_shapes.specs.Lines.{Statement, statement_of};
 ghost use Rattle.line_shapes.specs.declared.keyword.Keyword.{Keyword};
+ghost use Rattle.line_shapes.specs.declared.keyword.Keyword.TheVariants.{Split};
 ghost use Rattle.line_rules.specs.Entering.{entered_of, entering_of as entering, key_of};
 ghost use Rattle.line_rules.specs.Known.{HasNumber, HasRow, keys_of, rows_of};
 ghost use Rattle.line_rules.specs.declared.entering.Entering.TheVariants.{Nothing};
@@ -20,6 +23,9 @@ use std::marker::Model;
 
 // How many keywords there are.
 const KEYWORDS: usize = 31;
+
+// The splits that have numbers below this one are told apart by their numbers.
+const MARKS: usize = 1_024;
 
 /// The lines that were entered, in their order. The lines of a keyword are found by their numbers, and a line
 /// by the words by which it was entered: a word by which no line was entered is found by one hash of it.
@@ -135,6 +141,17 @@ impl<'t> Rows<'t> {
         self.firsts.contains_key(&word)
     }
 
+    /// Whether each of the names is that of a split, and no two are the same: it is found by the splits' numbers,
+    /// if these are below `MARKS`, and false is answered else.
+    pub fn are_splits_apart(&self, names: &[&str]) -> bool
+        ensures named { IsTrue result → (k : ℕ) (d : Bor (List ℕ)) → k < length names.now
+            → (0 < length (slice_index_or names.now k d).now)
+            × HasRow self.now Split (slice_index_or names.now k d).now }
+        ensures apart { IsTrue result → AllPairs (λ a b. a.now ≢ b.now) names.now }
+    {
+        have_numbers_apart(&self.firsts, names)
+    }
+
     /// The keyword of a row, counted from 0, and the first word of its key.
     pub fn key(&self, row: usize) -> Option<(Keyword, &'t str)>
         ensures { MatchOption result (length self.now ≤ row)
@@ -187,6 +204,40 @@ impl<'t> Rows<'t> {
                 Err(error)
             }
         }
+    }
+}
+
+// Whether each name stands in the table as that of a split, with a number that no name before it has.
+fn have_numbers_apart(firsts: &IndexMap<&str, (Keyword, usize)>, names: &[&str]) -> bool
+    ensures named { IsTrue result → (k : ℕ) (d : Bor (List ℕ)) → k < length names.now
+        → (0 < length (slice_index_or names.now k d).now)
+        × ((n : ℕ) × (first_by firsts.now.entries (slice_index_or names.now k d).now ≡ Some (Split, n))) }
+    ensures apart { IsTrue result → AllPairs (λ a b. a.now ≢ b.now) names.now }
+{
+    let mut seen = [false; MARKS];
+    for i in 0..names.len() {
+        let Some(number) = split_in(firsts, names[i]) else {
+            return false;
+        };
+        if number >= MARKS || seen[number] {
+            return false;
+        }
+        seen[number] = true;
+    }
+    true
+}
+
+// The number of the split whose name stands in the table.
+#[inline(always)]
+fn split_in(firsts: &IndexMap<&str, (Keyword, usize)>, name: &str) -> Option<usize>
+    ensures { IfSome result (λ n. (0 < length name.now) × (first_by firsts.now.entries name.now ≡ Some (Split, n))) }
+{
+    if name.is_empty() {
+        return None;
+    }
+    match firsts.get(&name) {
+        Some((Keyword::Split, number)) => Some(*number),
+        _ => None,
     }
 }
 

@@ -42,6 +42,7 @@ fn first_words<'t>(count: usize, text: &'t str, words: &mut Vec<&'t str>) -> Res
 /// Puts the words that follow a keyword and its space into a list, so many at most, in place of what the list
 /// has, and gives the rest of the line. A text that may follow these words is one word, whatever spaces it
 /// has, and leaves no rest.
+#[inline(always)]
 pub fn cut_words<'t>(
     keyword: Keyword,
     rest: Option<&'t str>,

@@ -6,7 +6,7 @@ ghost use Rattle.script_text.specs.Ready.{AreFew, HavePair, HasWords, IsWholeCom
 
 use crate::numbers::{attempt_at, numbers_in, split_at, splits_from, worker_at};
 use crate::script::{Command, Names};
-use line_rules::LineList;
+use line_rules::CommandList;
 use line_shapes::{KeyedLine, Keyword};
 use node_ids::{SplitNo, WorkerNo};
 use std::alloc::{AllocError, Global};
@@ -15,17 +15,17 @@ use std::alloc::{AllocError, Global};
 pub fn commands_of(
     alloc: Global,
     names: &Names<'_>,
-    lines: &LineList<'_>,
+    lines: &CommandList<'_>,
 ) -> Result<Vec<Command>, AllocError>
     requires few { AreFew names.now }
     requires ready { All (IsWholeCommand names.now) lines.now }
     ensures { IfOk result (λ commands. SayCommands names.now lines.now commands.items) }
 {
-    let mut commands = Vec::new(alloc);
-    for place in 0..lines.len() {
-        let Some(line) = lines.line(place) else {
-            unreachable!()
-        };
+    let count = lines.len();
+    let mut commands = Vec::with_capacity(alloc, count)?;
+    let mut words = Vec::new(alloc);
+    for place in 0..count {
+        let line = lines.line(place, &mut words)?;
         let command = command_of(alloc, names, &line)?;
         commands.push(command)?;
     }

@@ -16,7 +16,7 @@ use crate::commands::commands_of;
 use crate::heads::build_head;
 use crate::naming::{all_names, setting_of};
 use crate::script::{Script, ScriptText};
-use line_rules::{KnownLines, LineList, Purpose, ReadingError, read_lines};
+use line_rules::{CommandList, KnownLines, Purpose, ReadingError, read_lines};
 use line_shapes::Keyword;
 use plan_text::TidyRows;
 use std::alloc::{AllocError, Global};
@@ -96,7 +96,7 @@ fn script_of<'t>(alloc: Global, known: &KnownLines<'t>) -> Result<ScriptText<'t>
 fn build_script<'t>(
     alloc: Global,
     rows: &TidyRows<'_, 't>,
-    lines: &LineList<'_>,
+    lines: &CommandList<'_>,
 ) -> Result<Script<'t>, AllocError>
     requires few { FitMaster rows.now }
     requires ready { All (IsWholeCommand (told_names rows.now)) lines.now }

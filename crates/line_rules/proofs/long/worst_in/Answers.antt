@@ -1,8 +1,33 @@
-use Rattle.std.proofs.Common.{◌∷◌, rules, subst, sym, Bor, List, ℕ}
+use Rattle.std.proofs.Common.{◌∷◌, refl, rules, subst, sym, Bor, List, ℕ}
 use Rattle.text_lines.specs.Texts.{words_of}
-use Rattle.line_rules.proofs.Worst.{IsWorstBefore, better_word, worse_word}
+use Rattle.line_rules.proofs.Worst.{IsWorstBefore, better_word, first_marked, first_word, worse_word}
 use Rattle.line_rules.proofs.long.worst_in.Goals as goal
 use Rattle.line_rules.proofs.long.worst_in.Goals.{then-has-least, else-has-least}
+
+pub loop-least-init : goal.loop-least-init
+loop-least-init c =
+    let rows = c.args.rows.now in
+    let version = c.args.version in
+    let place = c.args.place in
+    let all = words_of c.args.left.now in
+    let left = words_of c.in-Some.after.now in
+    let first = c.split_word.result.0 in
+    let has = c.has_first-least.result in
+    let follows = rw c.in-Some.is at c.split_word.ensures.words in
+    let within = c.has_first-least.ensures.within in
+    let less = c.has_first-least.ensures.less in
+    let before : IsWorstBefore version rows place all left first.now has =
+    first_word version rows place all left first.now has follows.0 within less in
+    record {
+      some = before.some;
+      one = before.one;
+      most = before.most;
+      others = before.others;
+      bounded = within;
+      marked = first_marked version rows place all left first.now has follows.0 within less first refl 1024;
+      rest_text = search rules;
+      worst_text = search rules;
+    }
 
 pub loop-least-preserved : goal.loop-least-preserved
 loop-least-preserved c =
@@ -10,10 +35,10 @@ loop-least-preserved c =
     let version = c.args.version in
     let place = c.args.place in
     let all = words_of c.args.left.now in
-    let left = words_of c.in-Some.after.now in
-    let word = c.split_word.result.0.now in
+    let left = words_of c.in-Some-after.after.now in
+    let word = c.split_word-in-loop-least.result.0.now in
     let worst = c.loop-least.worst.now in
-    let follows = rw c.in-Some.is at c.split_word.ensures.words in
+    let follows = rw c.in-Some-after.is at c.split_word-in-loop-least.ensures.words in
     let from = words_of c.loop-least.rest.now in
     let before : IsWorstBefore version rows place all from worst c.loop-least.least = record {
       some = c.loop-least.invariant.some;
@@ -23,8 +48,8 @@ loop-least-preserved c =
     } in
     let here : IsWorstBefore version rows place all (word ∷ left) worst c.loop-least.least =
     subst (λ ws. IsWorstBefore version rows place all ws worst c.loop-least.least) follows.0 before in
-    let less = c.has_first-has.ensures.less in
-    let enough = c.has_first-has.ensures.enough in
+    let less = c.has_marked-has.ensures.less in
+    let enough = c.has_marked-has.ensures.enough in
     let after : IsWorstBefore version rows place all left c.if-has-least.worst.now c.if-has-least.least =
     elim c.if-has-least.branch [
       | then-has-least w ↦
@@ -43,6 +68,8 @@ loop-least-preserved c =
       one = after.one;
       most = after.most;
       others = after.others;
+      bounded = search rules;
+      marked = search rules;
       rest_text = search rules;
       worst_text = search rules;
     }

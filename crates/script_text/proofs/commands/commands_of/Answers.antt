@@ -8,9 +8,10 @@ use Rattle.script_text.proofs.commands.commands_of.Goals as goal
 
 pub command_of-requires-clause-ready : goal.command_of-requires-clause-ready
 command_of-requires-clause-ready c =
-    let said = statement_of c.in-Some.line in
-    subst (IsWholeCommand c.args.names.now) (c.in-Some.ensures.1 said)
-    (c.requires.ready c.loop-place.place said c.in-Some.ensures.0)
+    let said = statement_of c.in_ok-line.line in
+    subst (IsWholeCommand c.args.names.now) (c.in_ok-line.ensures said)
+    (c.requires.ready c.loop-place.place said
+    (omega (arith, c.loop-place-test.true, c.len-count.ensures)))
 
 pub loop-place-preserved : goal.loop-place-preserved
 loop-place-preserved c =
@@ -21,7 +22,7 @@ loop-place-preserved c =
     λ k x. (s : Statement) → SaysCommand c.args.names.now (get_or c.args.lines.now k s) x in
     let last : P (length xs) command =
     subst (λ i. P i command) (sym c.loop-place.invariant.0)
-    (λ s. subst (λ (t : Statement). SaysCommand c.args.names.now t command) (sym (c.in-Some.ensures.1 s))
+    (λ s. subst (λ (t : Statement). SaysCommand c.args.names.now t command) (sym (c.in_ok-line.ensures s))
     c.in_ok-command.ensures) in (
       omega (arith, c.loop-place.invariant.0, ap length items, length-append xs (command ∷ [])),
       subst (λ (ys : List Command). (k : ℕ) (d : Command) → k < length ys → P k (get_or ys k d)) (sym items)
@@ -33,9 +34,8 @@ returns c = record {
   many = omega (
     arith,
     c.loop-place.invariant.0,
-    c.len-place-end.ensures,
+    c.len-count.ensures,
     c.loop-place-test.false,
-    c.loop-place.auto.place-end,
   );
   each = λ k s x lt. c.loop-place.invariant.1 k x lt s;
 }

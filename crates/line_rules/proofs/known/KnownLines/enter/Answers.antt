@@ -10,7 +10,7 @@ use Rattle.line_rules.proofs.known.KnownLines.enter.Goals as goal
 pub invariant_of-self-2 : goal.invariant_of-self-2
 invariant_of-self-2 c =
     let said = statement_of c.args.line.now in
-    let fit = subst (λ (k : Known). IsFit k said) (sym c.self.view_is) c.requires in
+    let fit = subst (λ (k : Known). IsFit k said) (sym c.self.view_is) c.requires.fit in
     let version = version_after c.self.inside.version said in
     subst (λ v. IsSoundBefore v c.section_after-self-inside.result c.put.new.rows)
     (sym c.version_after-self-inside.ensures)
