@@ -45,6 +45,7 @@ extern "C" {
 #define MRJOB_MAX_RACKS 4096
 #define MRJOB_MAX_WORKERS 32768
 #define MRJOB_MAX_SPLITS 65535
+#define MRJOB_MAX_WIDE_SPLITS 131072 /* of a wide wave, see below */
 #define MRJOB_MAX_DIRECT_SPLITS 1024 /* of a plan over MRJOB_DIRECT */
 #define MRJOB_MAX_DIRECT_WORKERS 256 /* of a plan over MRJOB_DIRECT */
 #define MRJOB_MAX_HOLDERS 8          /* of one split */
@@ -100,6 +101,12 @@ struct mrjob_split {
 struct mrjob_pair {
     uint16_t split;
     uint16_t worker;
+};
+
+/* The same in numbers of 32 bits, for a wide wave (see below). */
+struct mrjob_wide_pair {
+    uint32_t split;
+    uint32_t worker;
 };
 
 /* A cluster as one wave sees it: how many data centres there are, and arrays with their lengths. Splits may
@@ -180,10 +187,11 @@ struct mrjob_nothing {
     struct mrjob_worker workers[1];
     struct mrjob_split splits[1];
     struct mrjob_pair pairs[1];
+    struct mrjob_wide_pair wide_pairs[1];
     uint64_t prices[1];
 };
 
-#define MRJOB_NOTHING {{0}, {{0, 0, 0}}, {{0, 0, 0, 0}}, {{0, 0}}, {0}}
+#define MRJOB_NOTHING {{0}, {{0, 0, 0}}, {{0, 0, 0, 0}}, {{0, 0}}, {{0, 0}}, {0}}
 
 static inline struct mrjob_wave mrjob_without_null(const struct mrjob_wave *wave,
                                                    const struct mrjob_nothing *nothing)
@@ -271,6 +279,121 @@ static inline size_t mrjob_unfit_place(const struct mrjob_wave *wave,
     return place;
 }
 
+/* ---- wide waves ---- */
+
+/* The same calls for waves of up to MRJOB_MAX_WIDE_SPLITS splits. The numbers of splits have 32 bits here, in
+ * barred pairs and in verdicts. Starts are numbers of workers, and stay as they are. A call promises the same, and
+ * answers the same status, as the call without _wide. */
+struct mrjob_wide_wave {
+    size_t centres;
+    const uint16_t *centre_of;
+    size_t racks;
+    const struct mrjob_worker *workers;
+    size_t workers_len;
+    const struct mrjob_split *splits;
+    size_t splits_len;
+    const uint16_t *holders;
+    size_t holders_len;
+    const struct mrjob_wide_pair *barred;
+    size_t barred_len;
+};
+
+/* In the verdict of a wide wave: no split, no worker. */
+#define MRJOB_WIDE_NONE 4294967295
+
+struct mrjob_wide_verdict {
+    uint64_t count;
+    uint64_t cost;
+    uint32_t condition;
+    uint32_t split;
+    uint32_t worker;
+};
+
+static inline uint32_t mrjob_plan_wide(const struct mrjob_wide_wave *wave, uint32_t network,
+                                       uint16_t *starts, size_t starts_len,
+                                       uint64_t *split_prices, size_t split_prices_len,
+                                       uint64_t *worker_prices, size_t worker_prices_len,
+                                       struct mrjob_total *total) MRJOB_NAMED("mrjob_plan_wide_any");
+
+static inline uint32_t mrjob_check_wide(const struct mrjob_wide_wave *wave,
+                                        const uint16_t *starts, size_t starts_len,
+                                        const uint64_t *split_prices, size_t split_prices_len,
+                                        const uint64_t *worker_prices, size_t worker_prices_len,
+                                        struct mrjob_wide_verdict *verdict) MRJOB_NAMED("mrjob_check_wide_any");
+
+static inline size_t mrjob_unfit_place_wide(const struct mrjob_wide_wave *wave,
+                                            const uint16_t *starts, size_t starts_len, uint32_t status);
+
+/* ---- the library's own functions of wide waves ---- */
+
+uint32_t mrjob_plan_wide_of_library(const struct mrjob_wide_wave *wave, uint32_t network,
+                                    uint16_t *starts, size_t starts_len,
+                                    uint64_t *split_prices, size_t split_prices_len,
+                                    uint64_t *worker_prices, size_t worker_prices_len,
+                                    struct mrjob_total *total) MRJOB_NAMED("mrjob_plan_wide");
+
+uint32_t mrjob_check_wide_of_library(const struct mrjob_wide_wave *wave,
+                                     const uint16_t *starts, size_t starts_len,
+                                     const uint64_t *split_prices, size_t split_prices_len,
+                                     const uint64_t *worker_prices, size_t worker_prices_len,
+                                     struct mrjob_wide_verdict *verdict) MRJOB_NAMED("mrjob_check_wide");
+
+uint32_t mrjob_unfit_wide(const struct mrjob_wide_wave *wave, const uint16_t *starts, size_t starts_len,
+                          uint32_t status, size_t *place);
+
+static inline struct mrjob_wide_wave mrjob_wide_without_null(const struct mrjob_wide_wave *wave,
+                                                             const struct mrjob_nothing *nothing)
+{
+    struct mrjob_wide_wave filled = *wave;
+    if (!filled.racks) filled.centre_of = nothing->numbers;
+    if (!filled.workers_len) filled.workers = nothing->workers;
+    if (!filled.splits_len) filled.splits = nothing->splits;
+    if (!filled.holders_len) filled.holders = nothing->numbers;
+    if (!filled.barred_len) filled.barred = nothing->wide_pairs;
+    return filled;
+}
+
+static inline uint32_t mrjob_plan_wide(const struct mrjob_wide_wave *wave, uint32_t network,
+                                       uint16_t *starts, size_t starts_len,
+                                       uint64_t *split_prices, size_t split_prices_len,
+                                       uint64_t *worker_prices, size_t worker_prices_len,
+                                       struct mrjob_total *total)
+{
+    const struct mrjob_nothing given = MRJOB_NOTHING;
+    struct mrjob_nothing nothing = MRJOB_NOTHING;
+    const struct mrjob_wide_wave filled = mrjob_wide_without_null(wave, &given);
+    return mrjob_plan_wide_of_library(&filled, network,
+                                      starts_len ? starts : nothing.numbers, starts_len,
+                                      split_prices_len ? split_prices : nothing.prices, split_prices_len,
+                                      worker_prices_len ? worker_prices : nothing.prices, worker_prices_len,
+                                      total);
+}
+
+static inline uint32_t mrjob_check_wide(const struct mrjob_wide_wave *wave,
+                                        const uint16_t *starts, size_t starts_len,
+                                        const uint64_t *split_prices, size_t split_prices_len,
+                                        const uint64_t *worker_prices, size_t worker_prices_len,
+                                        struct mrjob_wide_verdict *verdict)
+{
+    const struct mrjob_nothing nothing = MRJOB_NOTHING;
+    const struct mrjob_wide_wave filled = mrjob_wide_without_null(wave, &nothing);
+    return mrjob_check_wide_of_library(&filled,
+                                       starts_len ? starts : nothing.numbers, starts_len,
+                                       split_prices_len ? split_prices : nothing.prices, split_prices_len,
+                                       worker_prices_len ? worker_prices : nothing.prices, worker_prices_len,
+                                       verdict);
+}
+
+static inline size_t mrjob_unfit_place_wide(const struct mrjob_wide_wave *wave,
+                                            const uint16_t *starts, size_t starts_len, uint32_t status)
+{
+    const struct mrjob_nothing nothing = MRJOB_NOTHING;
+    const struct mrjob_wide_wave filled = mrjob_wide_without_null(wave, &nothing);
+    size_t place = MRJOB_NOWHERE;
+    mrjob_unfit_wide(&filled, starts_len ? starts : nothing.numbers, starts_len, status, &place);
+    return place;
+}
+
 /* ---- how the structs lie in memory ---- */
 
 #ifdef __cplusplus
@@ -305,6 +428,27 @@ MRJOB_LIES(mrjob_wave, holders, 56);
 MRJOB_LIES(mrjob_wave, holders_len, 64);
 MRJOB_LIES(mrjob_wave, barred, 72);
 MRJOB_LIES(mrjob_wave, barred_len, 80);
+MRJOB_ASSERT(sizeof(struct mrjob_wide_pair) == 8);
+MRJOB_LIES(mrjob_wide_pair, split, 0);
+MRJOB_LIES(mrjob_wide_pair, worker, 4);
+MRJOB_ASSERT(sizeof(struct mrjob_wide_wave) == 88);
+MRJOB_LIES(mrjob_wide_wave, centres, 0);
+MRJOB_LIES(mrjob_wide_wave, centre_of, 8);
+MRJOB_LIES(mrjob_wide_wave, racks, 16);
+MRJOB_LIES(mrjob_wide_wave, workers, 24);
+MRJOB_LIES(mrjob_wide_wave, workers_len, 32);
+MRJOB_LIES(mrjob_wide_wave, splits, 40);
+MRJOB_LIES(mrjob_wide_wave, splits_len, 48);
+MRJOB_LIES(mrjob_wide_wave, holders, 56);
+MRJOB_LIES(mrjob_wide_wave, holders_len, 64);
+MRJOB_LIES(mrjob_wide_wave, barred, 72);
+MRJOB_LIES(mrjob_wide_wave, barred_len, 80);
+MRJOB_ASSERT(sizeof(struct mrjob_wide_verdict) == 32);
+MRJOB_LIES(mrjob_wide_verdict, count, 0);
+MRJOB_LIES(mrjob_wide_verdict, cost, 8);
+MRJOB_LIES(mrjob_wide_verdict, condition, 16);
+MRJOB_LIES(mrjob_wide_verdict, split, 20);
+MRJOB_LIES(mrjob_wide_verdict, worker, 24);
 MRJOB_ASSERT(sizeof(struct mrjob_total) == 16);
 MRJOB_LIES(mrjob_total, count, 0);
 MRJOB_LIES(mrjob_total, cost, 8);

@@ -115,10 +115,11 @@ static void make(void)
     given.starts[0] = 1;
 }
 
+/* K is 1 + 4 * 30 = 121. Sums: s a 81 + 40 + 0, s b 81 + 0 + 40, t a 81 + 40 + 0, each 121; t b is barred. */
+static const uint64_t split_prices[] = {81, 81}, worker_prices[] = {40, 0};
+
 static uint32_t call(int which, struct answer *answer)
 {
-    /* K is 1 + 4 * 30 = 121. Sums: s a 81 + 40 + 0, s b 81 + 0 + 40, t a 81 + 40 + 0, each 121; t b is barred. */
-    static const uint64_t split_prices[] = {81, 81}, worker_prices[] = {40, 0};
     if (which == CHECK) {
         return mrjob_check(&given.wave, given.starts, given.starts_len, split_prices, given.split_prices_len,
                            worker_prices, given.worker_prices_len, &answer->verdict);
@@ -128,7 +129,45 @@ static uint32_t call(int which, struct answer *answer)
                       given.worker_prices_len, &answer->total);
 }
 
-/* Whether the call answers this status and, where that is no answer, writes nothing. */
+/* The same wave with its barred pair in numbers of 32 bits. */
+static struct mrjob_wide_wave widened(void)
+{
+    static struct mrjob_wide_pair pair;
+    const struct mrjob_wave *wave = &given.wave;
+    pair.split = given.barred[0].split, pair.worker = given.barred[0].worker;
+    return (struct mrjob_wide_wave){wave->centres, wave->centre_of, wave->racks, wave->workers, wave->workers_len,
+                                    wave->splits, wave->splits_len, wave->holders, wave->holders_len, &pair,
+                                    wave->barred_len};
+}
+
+static uint32_t wide_none(uint16_t place)
+{
+    return place == MRJOB_NONE ? (uint32_t)MRJOB_WIDE_NONE : place;
+}
+
+/* Whether the call for wide waves answers the same status, and writes the same, of an answer that began as this one. */
+static int is_same_wide(int which, uint32_t status, const struct answer *before, const struct answer *narrow)
+{
+    const struct mrjob_wide_wave wave = widened();
+    struct answer wide;
+    struct mrjob_wide_verdict verdict, kept;
+    memset(&kept, 0x5a, sizeof kept);
+    memcpy(&verdict, &kept, sizeof kept);
+    memcpy(&wide, before, sizeof wide);
+    if (which != CHECK) {
+        return mrjob_plan_wide(&wave, which == PLAN_RACKS ? given.network : given.network + MRJOB_DIRECT, wide.starts,
+                               given.starts_len, wide.split_prices, given.split_prices_len, wide.worker_prices,
+                               given.worker_prices_len, &wide.total) == status && !memcmp(&wide, narrow, sizeof wide);
+    }
+    if (mrjob_check_wide(&wave, given.starts, given.starts_len, split_prices, given.split_prices_len, worker_prices,
+                         given.worker_prices_len, &verdict) != status) return 0;
+    const struct mrjob_verdict *told = &narrow->verdict;
+    return status > MRJOB_REFUSED ? !memcmp(&verdict, &kept, sizeof kept)
+        : verdict.count == told->count && verdict.cost == told->cost && verdict.condition == told->condition &&
+          verdict.split == wide_none(told->split) && verdict.worker == wide_none(told->worker);
+}
+
+/* Whether the call answers this status and, where that is no answer, writes nothing; and so does the wide one. */
 static int answers(int which, uint32_t status)
 {
     struct answer before, after;
@@ -136,7 +175,8 @@ static int answers(int which, uint32_t status)
     memcpy(&after, &before, sizeof before);
     const uint32_t said = call(which, &after);
     if (said != status) printf("status %u, and not %u\n", (unsigned)said, (unsigned)status);
-    return said == status && (status <= MRJOB_REFUSED || !memcmp(&before, &after, sizeof before));
+    return said == status && (status <= MRJOB_REFUSED || !memcmp(&before, &after, sizeof before)) &&
+           is_same_wide(which, status, &before, &after);
 }
 
 static void test_answers(void)
@@ -215,8 +255,10 @@ static void test_statuses(void)
 /* A check answers this status, and the first row that is not fit stands at this place. */
 static void count_place(uint32_t status, size_t place, const char *name)
 {
+    const struct mrjob_wide_wave wide = widened();
     const size_t found = mrjob_unfit_place(&given.wave, given.starts, given.starts_len, status);
-    count(answers(CHECK, status) && found == place, name);
+    const size_t found_wide = mrjob_unfit_place_wide(&wide, given.starts, given.starts_len, status);
+    count(answers(CHECK, status) && found == place && found_wide == place, name);
 }
 
 static void test_places(void)
@@ -235,9 +277,13 @@ static void test_places(void)
     make(), given.starts[1] = 2, count_place(MRJOB_BAD_STARTS, 1, "the place of a start on no worker");
     make(), given.worker_prices_len = 1, count_place(MRJOB_BAD_LENGTH, MRJOB_NOWHERE, "lengths are nowhere");
     struct mrjob_wave wave;
+    struct mrjob_wide_wave wide;
     memset(&wave, 0, sizeof wave);
+    memset(&wide, 0, sizeof wide);
     for (uint32_t status = 0; status < 12; status++) {
-        count(mrjob_unfit_place(&wave, NULL, 0, status) == MRJOB_NOWHERE, "in a wave of nothing all is fit");
+        count(mrjob_unfit_place(&wave, NULL, 0, status) == MRJOB_NOWHERE &&
+                  mrjob_unfit_place_wide(&wide, NULL, 0, status) == MRJOB_NOWHERE,
+              "in a wave of nothing all is fit");
     }
 }
 
@@ -281,6 +327,12 @@ static void test_nothing(void)
         }
         count(mrjob_check(&wave, starts, 0, prices, 0, prices, 0, &verdict) == MRJOB_OK && verdict.count == 0,
               "nothing is certified");
+        const struct mrjob_wide_wave wide = {0, wave.centre_of, 0, wave.workers, 0, wave.splits, 0, wave.holders, 0,
+                                             (struct mrjob_wide_pair *)none, 0};
+        struct mrjob_wide_verdict told;
+        count(mrjob_plan_wide(&wide, MRJOB_RACKS, starts, 0, prices, 0, prices, 0, &total) == MRJOB_OK &&
+                  mrjob_check_wide(&wide, starts, 0, prices, 0, prices, 0, &told) == MRJOB_OK && told.count == 0,
+              "nothing is planned and certified of a wide wave");
         const struct mrjob_split split = {10, 0, 0, 1};
         uint16_t start = 7;
         uint64_t price = 7;
@@ -462,6 +514,54 @@ static void *take_most(void *output)
     return output;
 }
 
+/* ---- the most splits of a wide wave ---- */
+
+enum { WIDE_MOST = MRJOB_MAX_WIDE_SPLITS };
+
+static struct mrjob_split wide_splits[WIDE_MOST + 1];
+static uint16_t wide_starts[WIDE_MOST];
+static uint64_t wide_prices[WIDE_MOST];
+
+/* As above, and the last split lies on the second worker, on which it may not start. */
+static struct mrjob_wide_wave wide_wave_of(size_t splits, uint32_t barred)
+{
+    static const struct mrjob_worker workers[] = {{0, MRJOB_MAX_SLOTS, 1}, {0, MRJOB_MAX_SLOTS, 1}};
+    static const uint16_t centre_of[1], holders[] = {0, 1};
+    static struct mrjob_wide_pair pair;
+    pair.split = barred, pair.worker = 1;
+    return (struct mrjob_wide_wave){1, centre_of, 1, workers, 2, wide_splits, splits, holders, 2, &pair, 1};
+}
+
+static void *take_most_wide(void *output)
+{
+    for (size_t s = 0; s <= WIDE_MOST; s++) wide_splits[s] = (struct mrjob_split){1, s + 1 == WIDE_MOST, 1, 0};
+    for (size_t s = WIDE_MOST - 3; s < WIDE_MOST; s++) wide_splits[s].pending = 1;
+    const size_t most = WIDE_MOST;
+    uint64_t worker_prices[2];
+    struct mrjob_total total;
+    struct mrjob_wide_verdict verdict;
+    struct mrjob_wide_wave wave = wide_wave_of(most, WIDE_MOST - 1);
+    count(mrjob_plan_wide(&wave, MRJOB_RACKS, wide_starts, most, wide_prices, most, worker_prices, 2, &total) ==
+                  MRJOB_OK && total.count == 3 && total.cost == 2 && wide_starts[most - 1] == 0 && wide_starts[0] == MRJOB_NONE,
+          "131,072 splits are planned, and the last is barred");
+    count(mrjob_check_wide(&wave, wide_starts, most, wide_prices, most, worker_prices, 2, &verdict) == MRJOB_OK &&
+              verdict.count == 3 && verdict.cost == 2 && verdict.split == MRJOB_WIDE_NONE &&
+              verdict.worker == MRJOB_WIDE_NONE,
+          "and checked");
+    wide_starts[most - 1] = 1;
+    count(mrjob_check_wide(&wave, wide_starts, most, wide_prices, most, worker_prices, 2, &verdict) == MRJOB_REFUSED &&
+              verdict.condition == 2 && verdict.split == most - 1 && verdict.worker == 1,
+          "the last split on a worker where it is barred is refused by its number");
+    wave = wide_wave_of(most, WIDE_MOST);
+    count(mrjob_check_wide(&wave, wide_starts, most, wide_prices, most, worker_prices, 2, &verdict) == MRJOB_BAD_BARRED,
+          "a barred pair past the last split");
+    wave = wide_wave_of(most + 1, 0);
+    count(mrjob_check_wide(&wave, wide_starts, most, wide_prices, most, worker_prices, 2, &verdict) ==
+                  MRJOB_BAD_SPLITS && mrjob_unfit_place_wide(&wave, wide_starts, most, MRJOB_BAD_SPLITS) == MRJOB_NOWHERE,
+          "131,073 splits");
+    return output;
+}
+
 /* ---- the most workers ---- */
 
 enum { MOST = MRJOB_MAX_WORKERS };
@@ -533,6 +633,7 @@ int main(void)
     }
     test_threads();
     count_threads(1, take_most, "the most is taken in a small stack");
+    count_threads(1, take_most_wide, "the most of a wide wave is taken in a small stack");
     count_threads(1, take_most_workers, "the most workers are taken in a small stack");
     printf("%d passed, %d failed\n", passed, failed);
     return failed != 0;

@@ -5,7 +5,7 @@
 
 Made problems, the same in each run, are planned and checked by names and by arrays, over both networks: count and
 cost have to be those of reference_check.py and of `mrjob plan`, and a verdict with its place those of the reference
-and of `mrjob check`, of the same problem as text. Then waves of up to 65,535 splits, four threads at once, and the
+and of `mrjob check`, of the same problem as text. Then waves of up to 131,072 splits, four threads at once, and the
 names that the library shows. python_package.py tries what the package adds. The last line is 'N passed, M failed'.
 """
 import ctypes
@@ -28,7 +28,7 @@ from mrjob_plan import Cluster, Network, Prices, Split, Worker, arrays, check, l
 COUNT = 2000
 # How many splits the larger waves have, up to the most that a network takes.
 MANY_SPLITS = {
-    Network.RACKS: [1000, *range(1010, 1026), 4095, 4096, 4097, 32_768, 65_534, 65_535],
+    Network.RACKS: [1000, *range(1010, 1026), 4095, 4096, 4097, 32_768, 65_534, 65_535, 65_536, 131_072],
     Network.DIRECT: [1000, *range(1010, 1025)],
 }
 PROGRAM = sys.argv[1] if len(sys.argv) > 1 else str(ROOT / "bin/mrjob")

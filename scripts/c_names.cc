@@ -11,6 +11,8 @@ struct scheduler {
 int scheduler::mrjob_check(int count) const { return count + 2; }
 
 static mrjob_wave wave;
+static mrjob_wide_wave wide;
+static mrjob_wide_verdict told = {7, 7, 7, 7, 7};
 static mrjob_total total = {7, 7};
 static mrjob_verdict verdict = {7, 7, 7, 7, 7};
 
@@ -30,6 +32,9 @@ int main()
     if (!is_empty(plans(&wave, MRJOB_DIRECT, nullptr, 0, nullptr, 0, nullptr, 0, &total))) return 3;
     const auto checks = &mrjob_check;
     if (checks(&wave, nullptr, 0, nullptr, 0, nullptr, 0, &verdict) != MRJOB_OK || verdict.condition) return 4;
+    if (!is_empty(mrjob_plan_wide(&wide, MRJOB_RACKS, nullptr, 0, nullptr, 0, nullptr, 0, &total))) return 6;
+    const auto checks_wide = &mrjob_check_wide;
+    if (checks_wide(&wide, nullptr, 0, nullptr, 0, nullptr, 0, &told) != MRJOB_OK || told.condition) return 7;
     std::thread(mrjob_plan, &wave, uint32_t{MRJOB_RACKS}, nullptr, 0, nullptr, 0, nullptr, 0, &total).join();
     return is_empty(MRJOB_OK) ? 0 : 5;
 }

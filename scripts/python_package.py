@@ -90,7 +90,7 @@ UNFIT_WAVES = [
     ({"workers": [(0, 2**64, 1)]}, Status.BAD_WORKERS, f"worker 0: {2**64:,} free slots, at most 255"),
     ({"workers": [(0, -1, 1)]}, Status.BAD_WORKERS, "worker 0: -1 free slots, at least 0"),
     ({"workers": [(0, 1, 2**8), (0, 256, -1)]}, Status.BAD_WORKERS, "worker 1: 256 free slots, at most 255"),
-    ({"splits": [(0, 0, 0, 0)] * 65_536}, Status.BAD_SPLITS, "65,536 splits, at most 65,535"),
+    ({"splits": [(0, 0, 0, 0)] * 131_073}, Status.BAD_SPLITS, "131,073 splits, at most 131,072"),
     ({"splits": [(2**33 + 1, 0, 1, 1)]}, Status.BAD_SPLITS, "split 0: 8,589,934,593 bytes, at most 8,589,934,592"),
     ({"splits": [(2**64, 0, 1, 1)]}, Status.BAD_SPLITS, f"split 0: {2**64:,} bytes, at most 8,589,934,592"),
     ({"splits": [(-1, 0, 1, 1)]}, Status.BAD_SPLITS, "split 0: -1 bytes, at least 0"),
@@ -107,6 +107,10 @@ UNFIT_WAVES = [
      "barred pair 1: there is no split 65,535 among 65,535"),
     ({"splits": [(0, 0, 0, 0)] * 65_535, "barred": [(65_534, 0), (65_536, 0)]}, Status.BAD_BARRED,
      "barred pair 1: there is no split 65,536 among 65,535"),
+    ({"splits": [(0, 0, 0, 0)] * 65_537, "barred": [(65_536, 0), (65_537, 0)]}, Status.BAD_BARRED,
+     "barred pair 1: there is no split 65,537 among 65,537"),
+    ({"splits": [(0, 0, 0, 0)] * 131_072, "barred": [(131_071, 0), (2**32, 0)]}, Status.BAD_BARRED,
+     "barred pair 1: there is no split 4,294,967,296 among 131,072"),
     ({"holders": [2**16]}, Status.BAD_HOLDERS, "split 0, holder: there is no worker 65,536 among 1"),
     ({"holders": [0, 0], "splits": [(1, 0, 2, 1)]}, Status.BAD_HOLDERS, "split 0: worker 0 holds it twice"),
 ]
@@ -178,9 +182,9 @@ def statuses():
         for call in (lambda: arrays.plan(wave), lambda: arrays.check(wave, starts, prices, slots)):
             pairs.append((refused(call, Unfit), Unfit(status, words)))
     pairs += [(refused(call, Unfit), Unfit(status, words)) for call, status, words in UNFIT_CALLS]
-    told = re.findall(r"^#define MRJOB_(MAX_\w+|NONE|VERSION) (\d+)", (ROOT / "include/mrjob.h").read_text(), re.M)
+    told = re.findall(r"^#define MRJOB_(MAX_\w+|(?:WIDE_)?NONE|VERSION) (\d+)", (ROOT / "include/mrjob.h").read_text(), re.M)
     pairs += [(getattr(library, name), int(value)) for name, value in told]
-    return differences([(str(said), str(wanted)) for said, wanted in pairs] + pairs) and len(told) == 11
+    return differences([(str(said), str(wanted)) for said, wanted in pairs] + pairs) and len(told) == 13
 
 
 def bounds():
@@ -188,6 +192,7 @@ def bounds():
     rest, two steps away."""
     pairs = []
     sizes = [(65_535, 32_768, Network.RACKS), (65_535, 256, Network.RACKS)]
+    sizes += [(65_536, 256, Network.RACKS), (131_072, 32_768, Network.RACKS)]
     sizes += [(1024, 256, Network.RACKS), (1024, 256, Network.DIRECT)]
     for splits, workers, network in sizes:
         wave = wave_of(splits, workers)

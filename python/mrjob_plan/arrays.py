@@ -3,7 +3,8 @@
 An array of numpy, of ctypes or of the module array whose elements are just those that are wanted, in one piece and
 writable, is lent to the library as it is. Any other array or sequence is copied, number by number: rows of an array
 with named fields go by their names, and other rows by their places. WORKER, SPLIT and PAIR are the types for numpy
-that are lent, as in `numpy.zeros(1024, SPLIT)`; plain numbers are 'u2' (racks, workers) and 'u8' (prices).
+that are lent, as in `numpy.zeros(1024, SPLIT)`; plain numbers are 'u2' (racks, workers) and 'u8' (prices). Past 65,535
+splits it is WIDE_PAIR that is lent.
 """
 import ctypes
 import operator
@@ -17,14 +18,16 @@ from itertools import combinations
 from typing import Any, Dict, List, Mapping, Optional, Sequence, Tuple
 
 from .faults import refusal
-from .library import NONE, PairRow, SplitRow, Total, VerdictRow, WaveRows, WorkerRow, load
+from .library import MAX_SPLITS, NONE, WIDE_NONE, PairRow, SplitRow, Total, VerdictRow, WaveRows, WidePairRow
+from .library import WideVerdictRow, WorkerRow, load
 from .unfit import raise_for
 
-__all__ = ["NONE", "PAIR", "SPLIT", "WORKER", "Network", "Planned", "Verdict", "Wave", "check", "plan"]
+__all__ = ["NONE", "PAIR", "SPLIT", "WIDE_PAIR", "WORKER", "Network", "Planned", "Verdict", "Wave", "check", "plan"]
 
 WORKER = [("rack", "<u2"), ("free", "|u1"), ("live", "|u1")]
 SPLIT = [("bytes", "<u8"), ("first_holder", "<u4"), ("holder_count", "<u2"), ("pending", "<u2")]
 PAIR = [("split", "<u2"), ("worker", "<u2")]
+WIDE_PAIR = [("split", "<u4"), ("worker", "<u4")]
 
 # The fields that say yes or no: any number but 0 says yes.
 ANSWERS = ("live", "pending")
@@ -178,7 +181,8 @@ class Wave:
         self.workers = Elements("workers", WorkerRow, workers)
         self.splits = Elements("splits", SplitRow, splits)
         self.holders = Elements("holders", c_uint16, holders)
-        self.barred = Elements("barred", PairRow, barred)
+        self.is_wide = len(self.splits) > MAX_SPLITS
+        self.barred = Elements("barred", WidePairRow if self.is_wide else PairRow, barred)
         # of racks, workers and splits, where they have names
         self.names: Dict[str, Sequence[Any]] = {}
 
@@ -268,7 +272,8 @@ def plan(
     refuse_overlaps(outputs, wave.arrays)
     total = Total()
     arrays = [word for it in outputs.values() for word in it.pair]
-    status = load().mrjob_plan(byref(wave.rows()), within(2**32, network), *arrays, byref(total))
+    call = load().mrjob_plan_wide if wave.is_wide else load().mrjob_plan
+    status = call(byref(wave.rows()), within(2**32, network), *arrays, byref(total))
     raise_for(status, wave, outputs, network)
     written = [it.array for it in outputs.values()]
     return Planned(written[0], written[1], written[2], total.count, total.cost)
@@ -283,8 +288,10 @@ def check(wave: Wave, starts: Any, split_prices: Any, worker_prices: Any) -> Ver
         "split_prices": Elements("split_prices", c_uint64, split_prices),
         "worker_prices": Elements("worker_prices", c_uint64, worker_prices),
     }
-    row = VerdictRow()
+    row, call, none = VerdictRow(), load().mrjob_check, NONE
+    if wave.is_wide:
+        row, call, none = WideVerdictRow(), load().mrjob_check_wide, WIDE_NONE
     arrays = [word for it in given.values() for word in it.pair]
-    raise_for(load().mrjob_check(byref(wave.rows()), *arrays, byref(row)), wave, given)
-    place = [None if it == NONE else it for it in (row.split, row.worker)]
+    raise_for(call(byref(wave.rows()), *arrays, byref(row)), wave, given)
+    place = [None if it == none else it for it in (row.split, row.worker)]
     return Verdict(row.count, row.cost, row.condition or None, *place)

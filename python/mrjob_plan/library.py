@@ -11,7 +11,9 @@ NAME = f"libmrjob.so.{VERSION}"
 MAX_CENTRES = 256
 MAX_RACKS = 4096
 MAX_WORKERS = 32768
+# Of a wave whose barred pairs have numbers of 16 bits, and of a wide one, whose pairs have numbers of 32.
 MAX_SPLITS = 65535
+MAX_WIDE_SPLITS = 131072
 # Of a plan over the direct network.
 MAX_DIRECT_SPLITS = 1024
 MAX_DIRECT_WORKERS = 256
@@ -20,6 +22,8 @@ MAX_SLOTS = 255
 MAX_BYTES = 8589934592
 # In a place of a worker or a split: none. Workers and splits are numbered below it.
 NONE = 65535
+# The same in the verdict of a wide wave.
+WIDE_NONE = 4294967295
 
 
 class WorkerRow(Structure):
@@ -34,7 +38,13 @@ class PairRow(Structure):
     _fields_ = [("split", c_uint16), ("worker", c_uint16)]
 
 
+class WidePairRow(Structure):
+    _fields_ = [("split", c_uint32), ("worker", c_uint32)]
+
+
 class WaveRows(Structure):
+    """Of a narrow or a wide wave, which differ in what the address of the barred pairs leads to."""
+
     _fields_ = [("centres", c_size_t)] + [
         (f"{name}_{part}", kind)
         for name in ("centre_of", "workers", "splits", "holders", "barred")
@@ -55,6 +65,15 @@ class VerdictRow(Structure):
     split: int
     worker: int
     _fields_ = [*Total._fields_, ("condition", c_uint32), ("split", c_uint16), ("worker", c_uint16)]
+
+
+class WideVerdictRow(Structure):
+    count: int
+    cost: int
+    condition: int
+    split: int
+    worker: int
+    _fields_ = [*Total._fields_, ("condition", c_uint32), ("split", c_uint32), ("worker", c_uint32)]
 
 
 def place() -> str:
@@ -79,7 +98,10 @@ def load() -> ctypes.CDLL:
     if library.mrjob_version() != VERSION:
         raise ImportError(f"{place()} has version {library.mrjob_version()}, and this package wants {VERSION}")
     array = [c_void_p, c_size_t]
-    library.mrjob_plan.restype = library.mrjob_check.restype = c_uint32
-    library.mrjob_plan.argtypes = [POINTER(WaveRows), c_uint32, *array, *array, *array, POINTER(Total)]
-    library.mrjob_check.argtypes = [POINTER(WaveRows), *array, *array, *array, POINTER(VerdictRow)]
+    for plan in (library.mrjob_plan, library.mrjob_plan_wide):
+        plan.restype = c_uint32
+        plan.argtypes = [POINTER(WaveRows), c_uint32, *array, *array, *array, POINTER(Total)]
+    for check, verdict in ((library.mrjob_check, VerdictRow), (library.mrjob_check_wide, WideVerdictRow)):
+        check.restype = c_uint32
+        check.argtypes = [POINTER(WaveRows), *array, *array, *array, POINTER(verdict)]
     return library

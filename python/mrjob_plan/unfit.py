@@ -3,7 +3,7 @@ from typing import TYPE_CHECKING, Callable, Dict, Iterable, Iterator, Mapping
 
 from .faults import WORDS, NoMemory, Status, Unfit
 from .library import MAX_BYTES, MAX_CENTRES, MAX_DIRECT_SPLITS, MAX_DIRECT_WORKERS, MAX_HOLDERS, MAX_RACKS, MAX_SLOTS
-from .library import MAX_SPLITS, MAX_WORKERS, NONE
+from .library import MAX_WIDE_SPLITS, MAX_WORKERS, NONE
 
 if TYPE_CHECKING:
     from .arrays import Elements, Wave
@@ -44,7 +44,7 @@ def of_workers(wave: "Wave") -> Found:
 
 
 def of_splits(wave: "Wave") -> Found:
-    yield from past(len(wave.splits), MAX_SPLITS, "splits")
+    yield from past(len(wave.splits), MAX_WIDE_SPLITS, "splits")
     for split, (size, first, count, _) in enumerate(wave.splits.values()):
         place = wave.name("split", split)
         yield from at(place, past(size, MAX_BYTES, "bytes"))

@@ -1,5 +1,6 @@
 -- At which split a condition may fail.
-use Rattle.std.proofs.Common.{ℕ, ◌≡◌, ◌<◌, ◌≤◌, ◌⊎◌, inl, inr, arith, length, refl}
+use Rattle.std.proofs.Common.{ℕ, ◌<◌, ◌≤◌, arith, inl, inr, length}
+use Rattle.std.specs.Prelude.{IfSome}
 use Rattle.std.proofs.lemmas.Bool.{cases_lt}
 use Rattle.std.proofs.lemmas.List.{get_or_past}
 use Rattle.price_certificate.specs.declared.Condition.{Condition}
@@ -11,18 +12,38 @@ use Rattle.mrjob_c.specs.Checks.{split_in}
 
 -- of a claim of one size, each condition holds past the last split
 holds_past : (claim : Claim) (workers : ℕ) → HasOneSize claim workers → (c : Condition)
-    → length claim.wave.splits ≤ split_in c → (split_in c ≡ 65535) ⊎ Holds claim c
-holds_past claim workers size (Open s) past = inr (grind (arith, get_or_past))
-holds_past claim workers size (Allowed s w) past = inr (grind (arith, get_or_past))
-holds_past claim workers size (Room w) past = inl refl
-holds_past claim workers size (SplitPrice s) past = inr (grind (arith, get_or_past))
-holds_past claim workers size (WorkerPrice w) past = inl refl
-holds_past claim workers size (Priced s w) past = inr (grind (arith, get_or_past))
-holds_past claim workers size (Tight s w) past = inr (grind (arith, get_or_past))
-holds_past claim workers size (Unstarted s) past = inr (grind (arith, get_or_past))
-holds_past claim workers size (Spare w) past = inl refl
+    → IfSome (split_in c) (λ s. length claim.wave.splits ≤ s → Holds claim c)
+holds_past claim workers size (Open s) = λ past. grind (arith, get_or_past)
+holds_past claim workers size (Allowed s w) = λ past. grind (arith, get_or_past)
+holds_past claim workers size (Room w) = tt
+holds_past claim workers size (SplitPrice s) = λ past. grind (arith, get_or_past)
+holds_past claim workers size (WorkerPrice w) = tt
+holds_past claim workers size (Priced s w) = λ past. grind (arith, get_or_past)
+holds_past claim workers size (Tight s w) = λ past. grind (arith, get_or_past)
+holds_past claim workers size (Unstarted s) = λ past. grind (arith, get_or_past)
+holds_past claim workers size (Spare w) = tt
 
--- a condition that fails does so at one of the splits, or it is of none
+within : (n s : ℕ) → (n ≤ s → ⊥) → s < n
+within n s not_past = elim (cases_lt s n) [
+  | inl lt ↦ lt
+  | inr past ↦ absurd (not_past past)
+]
+
+-- a condition that fails, and is of a split, is of one of the claim's splits
 pub failing_split : (claim : Claim) (workers : ℕ) → HasOneSize claim workers → (c : Condition)
-    → (Holds claim c → ⊥) → (split_in c < length claim.wave.splits) ⊎ (split_in c ≡ 65535)
-failing_split claim workers size c fails = grind (arith, cases_lt, holds_past)
+    → (Holds claim c → ⊥) → IfSome (split_in c) (λ s. s < length claim.wave.splits)
+failing_split claim workers size (Open s) fails =
+    within _ s (λ past. fails (holds_past claim workers size (Open s) past))
+failing_split claim workers size (Allowed s w) fails =
+    within _ s (λ past. fails (holds_past claim workers size (Allowed s w) past))
+failing_split claim workers size (Room w) fails = tt
+failing_split claim workers size (SplitPrice s) fails =
+    within _ s (λ past. fails (holds_past claim workers size (SplitPrice s) past))
+failing_split claim workers size (WorkerPrice w) fails = tt
+failing_split claim workers size (Priced s w) fails =
+    within _ s (λ past. fails (holds_past claim workers size (Priced s w) past))
+failing_split claim workers size (Tight s w) fails =
+    within _ s (λ past. fails (holds_past claim workers size (Tight s w) past))
+failing_split claim workers size (Unstarted s) fails =
+    within _ s (λ past. fails (holds_past claim workers size (Unstarted s) past))
+failing_split claim workers size (Spare w) fails = tt

@@ -1,15 +1,19 @@
 -- What a check of a caller's arrays says.
-use Rattle.std.specs.Prelude.{ℕ, ◌≡◌, ◌≢◌, List, length, map}
+use Rattle.std.specs.Prelude.{ℕ, ◌≡◌, List, Option, Some, None, length, map}
+use Rattle.std.specs.declared.result.Result.{Result}
+use Rattle.std.specs.declared.result.Result.TheVariants.{Ok, Err}
 use Rattle.wave_problem.specs.Assignment.{pairs_of, total, IsBest}
 use Rattle.price_certificate.specs.declared.Condition.{Condition}
 use Rattle.price_certificate.specs.declared.Condition.TheVariants.{Open, Allowed, Room, SplitPrice}
 use Rattle.price_certificate.specs.declared.Condition.TheVariants.{WorkerPrice, Priced, Tight, Unstarted}
 use Rattle.price_certificate.specs.declared.Condition.TheVariants.{Spare}
+use Rattle.certificate_checker.specs.declared.Certified.{Certified}
 use Rattle.price_certificate.specs.Certificate.{claim, Certifies, Claim, IsFirstFailure}
 use Rattle.wave_arrays.specs.declared.array_rows.WaveRows.{WaveRows}
 use Rattle.wave_arrays.specs.Rows.{wave_in}
 use Rattle.wave_arrays.specs.Claims.{prices_in, start_in}
 use Rattle.mrjob_c.specs.declared.checks.Verdict.{Verdict}
+use Rattle.mrjob_c.specs.declared.checks.WideVerdict.{WideVerdict}
 
 -- what starts and prices claim of the wave that the rows make
 abbrev pub claim_in : WaveRows → List ℕ → List ℕ → List ℕ → Claim
@@ -22,7 +26,12 @@ pub record IsBestBy (claim : Claim) (many far : ℕ) : Type 0 where
   pub count : many ≡ length (pairs_of claim.starts)
   pub cost : far ≡ total claim.wave (pairs_of claim.starts)
 
--- a condition as the numbers of a verdict: its number and its place, where 65,535 stands for none
+-- the outcome of a check is that of the claim
+abbrev pub IsJudged : Claim → Result Certified Condition → Type 0
+IsJudged claim (Ok certified) = IsBestBy claim certified.count certified.cost
+IsJudged claim (Err condition) = IsFirstFailure claim condition
+
+-- the number of a condition
 abbrev pub condition_of : Condition → ℕ
 condition_of (Open s) = 1
 condition_of (Allowed s w) = 2
@@ -34,50 +43,94 @@ condition_of (Tight s w) = 6
 condition_of (Unstarted s) = 7
 condition_of (Spare w) = 8
 
-abbrev pub split_in : Condition → ℕ
-split_in (Open s) = s
-split_in (Allowed s w) = s
-split_in (Room w) = 65535
-split_in (SplitPrice s) = s
-split_in (WorkerPrice w) = 65535
-split_in (Priced s w) = s
-split_in (Tight s w) = s
-split_in (Unstarted s) = s
-split_in (Spare w) = 65535
+-- the split and the worker that it is of
+abbrev pub split_in : Condition → Option ℕ
+split_in (Open s) = Some s
+split_in (Allowed s w) = Some s
+split_in (Room w) = None
+split_in (SplitPrice s) = Some s
+split_in (WorkerPrice w) = None
+split_in (Priced s w) = Some s
+split_in (Tight s w) = Some s
+split_in (Unstarted s) = Some s
+split_in (Spare w) = None
 
-abbrev pub worker_in : Condition → ℕ
-worker_in (Open s) = 65535
-worker_in (Allowed s w) = w
-worker_in (Room w) = w
-worker_in (SplitPrice s) = 65535
-worker_in (WorkerPrice w) = w
-worker_in (Priced s w) = w
-worker_in (Tight s w) = w
-worker_in (Unstarted s) = 65535
-worker_in (Spare w) = w
+abbrev pub worker_in : Condition → Option ℕ
+worker_in (Open s) = None
+worker_in (Allowed s w) = Some w
+worker_in (Room w) = Some w
+worker_in (SplitPrice s) = None
+worker_in (WorkerPrice w) = Some w
+worker_in (Priced s w) = Some w
+worker_in (Tight s w) = Some w
+worker_in (Unstarted s) = None
+worker_in (Spare w) = Some w
 
--- the verdict says that the claim is certified
-pub record IsCertifiedBy (claim : Claim) (verdict : Verdict) : Type 0 where
-  pub best : IsBestBy claim verdict.count verdict.cost
-  pub none : verdict.condition ≡ 0
-  pub no_split : verdict.split ≡ 65535
-  pub no_worker : verdict.worker ≡ 65535
+-- ---- verdicts
 
--- the verdict names the condition
-pub record Names (verdict : Verdict) (c : Condition) : Type 0 where
-  pub number : verdict.condition ≡ condition_of c
-  pub split : verdict.split ≡ split_in c
-  pub worker : verdict.worker ≡ worker_in c
-  pub no_count : verdict.count ≡ 0
-  pub no_cost : verdict.cost ≡ 0
+-- what a verdict says, and the number that stands for no split and no worker in it
+pub record Finding : Type 0 where
+  pub count : ℕ
+  pub cost : ℕ
+  pub condition : ℕ
+  pub split : ℕ
+  pub worker : ℕ
+  pub none : ℕ
 
--- the verdict names the first condition that fails
-pub record IsRefusedBy (claim : Claim) (verdict : Verdict) : Type 0 where
+abbrev pub narrow_finding : Verdict → Finding
+narrow_finding verdict = record {
+  count = verdict.count;
+  cost = verdict.cost;
+  condition = verdict.condition;
+  split = verdict.split;
+  worker = verdict.worker;
+  none = 65535;
+}
+
+abbrev pub wide_finding : WideVerdict → Finding
+wide_finding verdict = record {
+  count = verdict.count;
+  cost = verdict.cost;
+  condition = verdict.condition;
+  split = verdict.split;
+  worker = verdict.worker;
+  none = 4294967295;
+}
+
+-- a place as a number, of which one stands for none
+abbrev pub number_of : ℕ → Option ℕ → ℕ
+number_of none None = none
+number_of none (Some place) = place
+
+-- the finding says that the claim is certified
+pub record IsCertifiedBy (claim : Claim) (finding : Finding) : Type 0 where
+  pub best : IsBestBy claim finding.count finding.cost
+  pub none : finding.condition ≡ 0
+  pub no_split : finding.split ≡ finding.none
+  pub no_worker : finding.worker ≡ finding.none
+
+-- the finding names the condition
+pub record Names (finding : Finding) (c : Condition) : Type 0 where
+  pub number : finding.condition ≡ condition_of c
+  pub split : finding.split ≡ number_of finding.none (split_in c)
+  pub worker : finding.worker ≡ number_of finding.none (worker_in c)
+  pub no_count : finding.count ≡ 0
+  pub no_cost : finding.cost ≡ 0
+
+-- the finding names the first condition that fails
+pub record IsRefusedBy (claim : Claim) (finding : Finding) : Type 0 where
   pub condition : Condition
   pub first : IsFirstFailure claim condition
-  pub names : Names verdict condition
+  pub names : Names finding condition
 
--- the verdict is that of the claim
-pub record IsJudged (claim : Claim) (verdict : Verdict) : Type 0 where
-  pub certified : verdict.condition ≡ 0 → IsCertifiedBy claim verdict
-  pub refused : verdict.condition ≢ 0 → IsRefusedBy claim verdict
+-- the finding tells the outcome of a check
+pub record TellsCount (finding : Finding) (certified : Certified) : Type 0 where
+  pub count : finding.count ≡ certified.count
+  pub cost : finding.cost ≡ certified.cost
+  pub none : finding.condition ≡ 0
+  pub no_split : finding.split ≡ finding.none
+  pub no_worker : finding.worker ≡ finding.none
+
+abbrev pub Tells : Finding → Result Certified Condition → Type 0
+Tells finding (Ok certified) = TellsCount finding certified
+Tells finding (Err condition) = Names finding condition

@@ -1,16 +1,20 @@
 //! A check of a plan by its prices.
-ghost use Rattle.std.specs.Prelude.{◌≡◌, ◌≢◌, ◌<◌, ◌≤◌, ◌^◌, length, IfErr, IfOk, OnOk};
+ghost use Rattle.std.specs.Prelude.{◌≡◌, ◌<◌, ◌≤◌, ◌^◌, length, IfErr, IfOk, IfSome, IsErr};
+ghost use Rattle.std.specs.Prelude.{IsOk, OnOk};
 ghost use Rattle.price_certificate.specs.Certificate.{claim, HasOneSize};
-ghost use Rattle.wave_arrays.specs.declared.TheConstants.{MAX_SPLITS};
+ghost use Rattle.wave_arrays.specs.Rows.{narrow_rows, wide_rows};
 ghost use Rattle.mrjob_c.specs.Status.{IsCheckFit, IsFaultOfCheck, TellsCheckFault};
-ghost use Rattle.mrjob_c.specs.Checks.{claim_in, IsCertifiedBy, IsJudged, IsRefusedBy, Names, split_in};
+ghost use Rattle.mrjob_c.specs.Checks.{claim_in, condition_of, IsCertifiedBy, IsJudged, IsRefusedBy};
+ghost use Rattle.mrjob_c.specs.Checks.{narrow_finding, number_of, split_in, Tells, wide_finding, worker_in};
 
 use crate::status::{Fault, OK, REFUSED, are_sized, status_of};
-use certificate_checker::certify;
+use certificate_checker::{Certified, certify};
 use node_ids::{SplitNo, WorkerNo};
 use price_certificate::{Condition, Prices};
 use std::alloc::{AllocError, Global};
-use wave_arrays::{WaveRows, are_starts_fit, build_problem, plan_of, prices_of, test_rows};
+use wave_arrays::{
+    NarrowWave, WaveRows, WideWave, are_starts_fit, build_problem, plan_of, prices_of, test_rows,
+};
 use wave_problem::{Plan, Problem};
 
 /// What a check says of a plan: how many splits start at which byte-distance, or, where the condition is
@@ -25,48 +29,106 @@ pub struct Verdict {
     pub worker: u16,
 }
 
+/// The same of a wide wave.
+#[repr(C)]
+#[derive(Clone, Copy, Debug, PartialEq, Eq)]
+pub struct WideVerdict {
+    pub count: u64,
+    pub cost: u64,
+    pub condition: u32,
+    pub split: u32,
+    pub worker: u32,
+}
+
 // The number of a split or a worker where a condition has none.
 const NOWHERE: u16 = 65535;
+
+// The same in the verdict of a wide wave.
+const WIDE_NOWHERE: u32 = 4_294_967_295;
 
 /// Checks starts by prices: 0 where they are certified, 1 where a condition fails, else why nothing is
 /// said of them.
 #[unsafe(no_mangle)]
 pub extern "C" fn mrjob_check(
     alloc: Global,
-    rows: &WaveRows<'_>,
+    wave: &NarrowWave<'_>,
     starts: &[u16],
     split_prices: &[u64],
     worker_prices: &[u64],
     verdict: &mut Verdict,
 ) -> u32
     ensures certified { result ≡ 0 →
-        IsCertifiedBy (claim_in rows.now starts.now split_prices.now worker_prices.now) verdict.new }
+        IsCertifiedBy (claim_in (narrow_rows wave.now) starts.now split_prices.now worker_prices.now)
+        (narrow_finding verdict.new) }
     ensures refused { result ≡ 1 →
-        IsRefusedBy (claim_in rows.now starts.now split_prices.now worker_prices.now) verdict.new }
-    ensures fit { result ≤ 1 → IsCheckFit rows.now starts.now (length split_prices.now)
+        IsRefusedBy (claim_in (narrow_rows wave.now) starts.now split_prices.now worker_prices.now)
+        (narrow_finding verdict.new) }
+    ensures fit { result ≤ 1 → IsCheckFit (narrow_rows wave.now) starts.now (length split_prices.now)
         (length worker_prices.now) }
-    ensures told { 2 ≤ result → TellsCheckFault rows.now starts.now (length split_prices.now)
+    ensures told { 2 ≤ result → TellsCheckFault (narrow_rows wave.now) starts.now (length split_prices.now)
         (length worker_prices.now) result }
     ensures verdict { 2 ≤ result → verdict.new ≡ verdict.old }
 {
-    match check(alloc, rows, starts, split_prices, worker_prices) {
-        Ok(answer) => {
-            *verdict = answer;
-            if answer.condition == 0 { OK } else { REFUSED }
+    match check(alloc, &wave.rows(), starts, split_prices, worker_prices) {
+        Ok(outcome) => {
+            *verdict = narrow_verdict(outcome);
+            status_of_outcome(&outcome)
         }
         Err(fault) => status_of(fault),
     }
 }
 
+/// The same of a wide wave.
+#[unsafe(no_mangle)]
+pub extern "C" fn mrjob_check_wide(
+    alloc: Global,
+    wave: &WideWave<'_>,
+    starts: &[u16],
+    split_prices: &[u64],
+    worker_prices: &[u64],
+    verdict: &mut WideVerdict,
+) -> u32
+    ensures certified { result ≡ 0 →
+        IsCertifiedBy (claim_in (wide_rows wave.now) starts.now split_prices.now worker_prices.now)
+        (wide_finding verdict.new) }
+    ensures refused { result ≡ 1 →
+        IsRefusedBy (claim_in (wide_rows wave.now) starts.now split_prices.now worker_prices.now)
+        (wide_finding verdict.new) }
+    ensures fit { result ≤ 1 → IsCheckFit (wide_rows wave.now) starts.now (length split_prices.now)
+        (length worker_prices.now) }
+    ensures told { 2 ≤ result → TellsCheckFault (wide_rows wave.now) starts.now (length split_prices.now)
+        (length worker_prices.now) result }
+    ensures verdict { 2 ≤ result → verdict.new ≡ verdict.old }
+{
+    match check(alloc, &wave.rows(), starts, split_prices, worker_prices) {
+        Ok(outcome) => {
+            *verdict = wide_verdict(outcome);
+            status_of_outcome(&outcome)
+        }
+        Err(error) => status_of(error),
+    }
+}
+
+fn status_of_outcome(outcome: &Result<Certified, Condition>) -> u32
+    ensures certified { result ≡ 0 → IsOk outcome.now }
+    ensures refused { result ≡ 1 → IsErr outcome.now }
+    ensures within { result ≤ 1 }
+{
+    if outcome.is_ok() { OK } else { REFUSED }
+}
+
+// Checks starts by prices, and tells the count and the cost, or the first condition that fails.
 fn check(
     alloc: Global,
     rows: &WaveRows<'_>,
     starts: &[u16],
     split_prices: &[u64],
     worker_prices: &[u64],
-) -> Result<Verdict, Fault>
+) -> Result<Result<Certified, Condition>, Fault>
     ensures judged { IfOk result
         (IsJudged (claim_in rows.now starts.now split_prices.now worker_prices.now)) }
+    ensures at_a_split { IfOk result (λ outcome.
+        IfErr outcome (λ c. IfSome (split_in c) (λ s. s < length rows.now.splits.now))) }
     ensures fit { OnOk result
         (IsCheckFit rows.now starts.now (length split_prices.now) (length worker_prices.now)) }
     ensures told { IfErr result
@@ -74,7 +136,7 @@ fn check(
 {
     test_arrays(rows, starts, split_prices.len(), worker_prices.len())?;
     match judge(alloc, rows, starts, split_prices, worker_prices) {
-        Ok(verdict) => Ok(verdict),
+        Ok(outcome) => Ok(outcome),
         Err(_) => Err(Fault::Memory),
     }
 }
@@ -106,22 +168,74 @@ fn judge(
     starts: &[u16],
     split_prices: &[u64],
     worker_prices: &[u64],
-) -> Result<Verdict, AllocError>
+) -> Result<Result<Certified, Condition>, AllocError>
     requires { IsCheckFit rows.now starts.now (length split_prices.now) (length worker_prices.now) }
-    ensures { IfOk result (IsJudged (claim_in rows.now starts.now split_prices.now worker_prices.now)) }
+    ensures judged { IfOk result
+        (IsJudged (claim_in rows.now starts.now split_prices.now worker_prices.now)) }
+    ensures at_a_split { IfOk result (λ outcome.
+        IfErr outcome (λ c. IfSome (split_in c) (λ s. s < length rows.now.splits.now))) }
 {
     let prices = prices_of(alloc, split_prices, worker_prices)?;
     let plan = plan_of(alloc, starts, rows.workers.len())?;
     let problem = build_problem(alloc, rows)?;
-    Ok(judged(alloc, &problem, &plan, &prices))
+    Ok(certify_within(alloc, &problem, &plan, &prices))
 }
 
-fn judged(alloc: Global, problem: &Problem, plan: &Plan, prices: &Prices) -> Verdict
-    requires few { length problem.now.splits ≤ MAX_SPLITS }
-    requires sizes { HasOneSize (claim problem.now plan.now.starts prices.now) plan.now.workers }
-    ensures { IsJudged (claim problem.now plan.now.starts prices.now) result }
+// The outcome of a check, whose condition is of one of the splits if it is of a split.
+fn certify_within(
+    alloc: Global,
+    problem: &Problem,
+    plan: &Plan,
+    prices: &Prices,
+) -> Result<Certified, Condition>
+    requires { HasOneSize (claim problem.now plan.now.starts prices.now) plan.now.workers }
+    ensures judged { IsJudged (claim problem.now plan.now.starts prices.now) result }
+    ensures at_a_split { IfErr result (λ c. IfSome (split_in c) (λ s. s < length problem.now.splits)) }
 {
-    match certify(alloc, problem, plan, prices) {
+    certify(alloc, problem, plan, prices)
+}
+
+// The number of a condition, and the split and the worker that it is of.
+#[derive(Clone, Copy)]
+struct Place {
+    condition: u32,
+    split: Option<SplitNo>,
+    worker: Option<WorkerNo>,
+}
+
+fn place_of(condition: Condition) -> Place
+    ensures number { result.condition ≡ condition_of condition }
+    ensures split { result.split ≡ split_in condition }
+    ensures worker { result.worker ≡ worker_in condition }
+{
+    match condition {
+        Condition::Open(s) => place_at(1, Some(s), None),
+        Condition::Allowed(s, w) => place_at(2, Some(s), Some(w)),
+        Condition::Room(w) => place_at(3, None, Some(w)),
+        Condition::SplitPrice(s) => place_at(4, Some(s), None),
+        Condition::WorkerPrice(w) => place_at(4, None, Some(w)),
+        Condition::Priced(s, w) => place_at(5, Some(s), Some(w)),
+        Condition::Tight(s, w) => place_at(6, Some(s), Some(w)),
+        Condition::Unstarted(s) => place_at(7, Some(s), None),
+        Condition::Spare(w) => place_at(8, None, Some(w)),
+    }
+}
+
+fn place_at(condition: u32, split: Option<SplitNo>, worker: Option<WorkerNo>) -> Place
+    ensures { result ≡ record { condition = condition; split = split; worker = worker } }
+{
+    Place {
+        condition,
+        split,
+        worker,
+    }
+}
+
+fn narrow_verdict(outcome: Result<Certified, Condition>) -> Verdict
+    requires { IfErr outcome (λ c. IfSome (split_in c) (λ s. s < 2 ^ 16)) }
+    ensures { Tells (narrow_finding result) outcome }
+{
+    match outcome {
         Ok(certified) => Verdict {
             count: certified.count as u64,
             cost: certified.cost,
@@ -129,49 +243,39 @@ fn judged(alloc: Global, problem: &Problem, plan: &Plan, prices: &Prices) -> Ver
             split: NOWHERE,
             worker: NOWHERE,
         },
-        Err(condition) => refused(condition),
+        Err(condition) => {
+            let at = place_of(condition);
+            Verdict {
+                count: 0,
+                cost: 0,
+                condition: at.condition,
+                split: at.split.map_or(NOWHERE, |s| s.index() as u16),
+                worker: at.worker.map_or(NOWHERE, |w| w.index() as u16),
+            }
+        }
     }
 }
 
-fn refused(condition: Condition) -> Verdict
-    requires { split_in condition < 2 ^ 16 }
-    ensures names { Names result condition }
-    ensures refused { result.condition ≢ 0 }
+fn wide_verdict(outcome: Result<Certified, Condition>) -> WideVerdict
+    ensures { Tells (wide_finding result) outcome }
 {
-    match condition {
-        Condition::Open(s) => refusal(1, of_split(s), NOWHERE),
-        Condition::Allowed(s, w) => refusal(2, of_split(s), of_worker(w)),
-        Condition::Room(w) => refusal(3, NOWHERE, of_worker(w)),
-        Condition::SplitPrice(s) => refusal(4, of_split(s), NOWHERE),
-        Condition::WorkerPrice(w) => refusal(4, NOWHERE, of_worker(w)),
-        Condition::Priced(s, w) => refusal(5, of_split(s), of_worker(w)),
-        Condition::Tight(s, w) => refusal(6, of_split(s), of_worker(w)),
-        Condition::Unstarted(s) => refusal(7, of_split(s), NOWHERE),
-        Condition::Spare(w) => refusal(8, NOWHERE, of_worker(w)),
-    }
-}
-
-fn of_split(split: SplitNo) -> u16
-    requires { split < 2 ^ 16 }
-    ensures { result ≡ split }
-{
-    split.index() as u16
-}
-
-fn of_worker(worker: WorkerNo) -> u16
-    ensures { result ≡ worker }
-{
-    worker.index() as u16
-}
-
-fn refusal(condition: u32, split: u16, worker: u16) -> Verdict
-    ensures { result ≡ record { count = 0; cost = 0; condition = condition; split = split; worker = worker } }
-{
-    Verdict {
-        count: 0,
-        cost: 0,
-        condition,
-        split,
-        worker,
+    match outcome {
+        Ok(certified) => WideVerdict {
+            count: certified.count as u64,
+            cost: certified.cost,
+            condition: 0,
+            split: WIDE_NOWHERE,
+            worker: WIDE_NOWHERE,
+        },
+        Err(condition) => {
+            let at = place_of(condition);
+            WideVerdict {
+                count: 0,
+                cost: 0,
+                condition: at.condition,
+                split: at.split.map_or(WIDE_NOWHERE, |s| s.index() as u32),
+                worker: at.worker.map_or(WIDE_NOWHERE, |w| w.index() as u32),
+            }
+        }
     }
 }

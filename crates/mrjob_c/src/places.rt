@@ -1,20 +1,47 @@
 //! Where the rows are not fit for which a call writes nothing.
 ghost use Rattle.std.specs.Prelude.{◌≡◌, ◌≤◌, IsSome, None, Some};
+ghost use Rattle.wave_arrays.specs.Rows.{narrow_rows, wide_rows};
 ghost use Rattle.mrjob_c.specs.Places.{IsUnfitAt};
 
 use wave_arrays::{
-    WaveRows, unfit_holders, unfit_pair, unfit_rack, unfit_split, unfit_start, unfit_worker,
+    NarrowWave, WaveRows, WideWave, unfit_holders, unfit_pair, unfit_rack, unfit_split,
+    unfit_start, unfit_worker,
 };
 
 /// Tells where the first row stands that is not fit, of the kind that a status is of: 1 where there is one,
 /// whose place is written, and else 0.
 #[unsafe(no_mangle)]
 pub extern "C" fn mrjob_unfit(
-    rows: &WaveRows<'_>,
+    wave: &NarrowWave<'_>,
     starts: &[u16],
     status: u32,
     place: &mut usize,
 ) -> u32
+    ensures found { result ≡ 1 → IsUnfitAt (narrow_rows wave.now) starts.now status (Some place.new) }
+    ensures none { result ≡ 0 → IsUnfitAt (narrow_rows wave.now) starts.now status None }
+    ensures kept { result ≡ 0 → place.new ≡ place.old }
+    ensures within { result ≤ 1 }
+{
+    tell_unfit(&wave.rows(), starts, status, place)
+}
+
+/// The same of a wide wave.
+#[unsafe(no_mangle)]
+pub extern "C" fn mrjob_unfit_wide(
+    wave: &WideWave<'_>,
+    starts: &[u16],
+    status: u32,
+    place: &mut usize,
+) -> u32
+    ensures found { result ≡ 1 → IsUnfitAt (wide_rows wave.now) starts.now status (Some place.new) }
+    ensures none { result ≡ 0 → IsUnfitAt (wide_rows wave.now) starts.now status None }
+    ensures kept { result ≡ 0 → place.new ≡ place.old }
+    ensures within { result ≤ 1 }
+{
+    tell_unfit(&wave.rows(), starts, status, place)
+}
+
+fn tell_unfit(rows: &WaveRows<'_>, starts: &[u16], status: u32, place: &mut usize) -> u32
     ensures found { result ≡ 1 → IsUnfitAt rows.now starts.now status (Some place.new) }
     ensures none { result ≡ 0 → IsUnfitAt rows.now starts.now status None }
     ensures kept { result ≡ 0 → place.new ≡ place.old }

@@ -2,7 +2,7 @@
 ghost use Rattle.std.specs.Prelude.{◌≡◌, ◌≢◌, ◌↔◌, length, IfErr, IfOk, IsTrue, OnOk};
 ghost use Rattle.price_certificate.specs.Certificate.{claim, HasOneSize};
 ghost use Rattle.wave_planner.specs.Planned.{IsMadeOver};
-ghost use Rattle.wave_arrays.specs.Rows.{AreFit, wave_in};
+ghost use Rattle.wave_arrays.specs.Rows.{AreFit, narrow_rows, wave_in, wide_rows};
 ghost use Rattle.mrjob_c.specs.Status.{IsFaultOfPlan, IsPlanFit, IsSmall, TellsPlanFault};
 ghost use Rattle.mrjob_c.specs.Checks.{IsBestBy};
 ghost use Rattle.mrjob_c.specs.Plans.{IsPlanned, kind_in};
@@ -11,7 +11,8 @@ use crate::status::{Fault, OK, are_sized, status_of};
 use flow_network::NetworkKind;
 use std::alloc::{AllocError, Global};
 use wave_arrays::{
-    WaveRows, build_problem, test_rows, write_split_prices, write_starts, write_worker_prices,
+    NarrowWave, WaveRows, WideWave, build_problem, test_rows, write_split_prices, write_starts,
+    write_worker_prices,
 };
 use wave_planner::{Planned, plan_with};
 
@@ -27,6 +28,71 @@ pub struct Total {
 #[unsafe(no_mangle)]
 pub extern "C" fn mrjob_plan(
     alloc: Global,
+    wave: &NarrowWave<'_>,
+    network: u32,
+    starts: &mut [u16],
+    split_prices: &mut [u64],
+    worker_prices: &mut [u64],
+    total: &mut Total,
+) -> u32
+    ensures planned { result ≡ 0 → IsPlanned (narrow_rows wave.now) network starts.new split_prices.new
+        worker_prices.new total.new.count total.new.cost }
+    ensures fit { result ≡ 0 → IsPlanFit (narrow_rows wave.now) network (length starts.old)
+        (length split_prices.old) (length worker_prices.old) }
+    ensures told { result ≢ 0 → TellsPlanFault (narrow_rows wave.now) network (length starts.old)
+        (length split_prices.old) (length worker_prices.old) result }
+    ensures starts { result ≢ 0 → starts.new ≡ starts.old }
+    ensures split_prices { result ≢ 0 → split_prices.new ≡ split_prices.old }
+    ensures worker_prices { result ≢ 0 → worker_prices.new ≡ worker_prices.old }
+    ensures total { result ≢ 0 → total.new ≡ total.old }
+{
+    plan(
+        alloc,
+        &wave.rows(),
+        network,
+        starts,
+        split_prices,
+        worker_prices,
+        total,
+    )
+}
+
+/// The same of a wide wave.
+#[unsafe(no_mangle)]
+pub extern "C" fn mrjob_plan_wide(
+    alloc: Global,
+    wave: &WideWave<'_>,
+    network: u32,
+    starts: &mut [u16],
+    split_prices: &mut [u64],
+    worker_prices: &mut [u64],
+    total: &mut Total,
+) -> u32
+    ensures planned { result ≡ 0 → IsPlanned (wide_rows wave.now) network starts.new split_prices.new
+        worker_prices.new total.new.count total.new.cost }
+    ensures fit { result ≡ 0 → IsPlanFit (wide_rows wave.now) network (length starts.old)
+        (length split_prices.old) (length worker_prices.old) }
+    ensures told { result ≢ 0 → TellsPlanFault (wide_rows wave.now) network (length starts.old)
+        (length split_prices.old) (length worker_prices.old) result }
+    ensures starts { result ≢ 0 → starts.new ≡ starts.old }
+    ensures split_prices { result ≢ 0 → split_prices.new ≡ split_prices.old }
+    ensures worker_prices { result ≢ 0 → worker_prices.new ≡ worker_prices.old }
+    ensures total { result ≢ 0 → total.new ≡ total.old }
+{
+    plan(
+        alloc,
+        &wave.rows(),
+        network,
+        starts,
+        split_prices,
+        worker_prices,
+        total,
+    )
+}
+
+// Plans the wave that the rows make.
+fn plan(
+    alloc: Global,
     rows: &WaveRows<'_>,
     network: u32,
     starts: &mut [u16],
@@ -36,8 +102,8 @@ pub extern "C" fn mrjob_plan(
 ) -> u32
     ensures planned { result ≡ 0 → IsPlanned rows.now network starts.new split_prices.new
         worker_prices.new total.new.count total.new.cost }
-    ensures fit { result ≡ 0 → IsPlanFit rows.now network (length starts.old) (length split_prices.old)
-        (length worker_prices.old) }
+    ensures fit { result ≡ 0 → IsPlanFit rows.now network (length starts.old)
+        (length split_prices.old) (length worker_prices.old) }
     ensures told { result ≢ 0 → TellsPlanFault rows.now network (length starts.old)
         (length split_prices.old) (length worker_prices.old) result }
     ensures starts { result ≢ 0 → starts.new ≡ starts.old }

@@ -8,11 +8,11 @@ use Rattle.std.proofs.lemmas.List.Elements.{Contains-append_right}
 use Rattle.node_ids.specs.Sets.{HasPair, no_pairs, with_pair, with_worker}
 use Rattle.node_ids.proofs.Rows.{pairs-with_pair}
 use Rattle.node_ids.proofs.Updating.{length-updated}
-use Rattle.wave_arrays.specs.declared.array_rows.PairRow.{PairRow}
+use Rattle.wave_arrays.specs.declared.array_rows.WidePairRow.{WidePairRow}
 use Rattle.wave_arrays.specs.Rows.{IsListed, IsPairKnown, TheBarredAreThoseListed}
 
 -- the set with these pairs in it too
-abbrev with_all : List (List ℕ) → List PairRow → List (List ℕ)
+abbrev with_all : List (List ℕ) → List WidePairRow → List (List ℕ)
 with_all set pairs = fold (λ set pair. with_pair set pair.split pair.worker) set pairs
 
 -- no pair is in the set of none
@@ -24,7 +24,7 @@ no_pair splits s w has =
     ] in
     false≢true (rw row at has)
 
-has_all : (workers : ℕ) (set : List (List ℕ)) (pairs : List PairRow) (s w : ℕ)
+has_all : (workers : ℕ) (set : List (List ℕ)) (pairs : List WidePairRow) (s w : ℕ)
     → All (IsPairKnown (length set) workers) pairs
     → HasPair (with_all set pairs) s w ↔ (IsListed pairs s w ⊎ HasPair set s w)
 has_all workers set [] s w known = grind arith

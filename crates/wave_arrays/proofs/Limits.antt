@@ -6,13 +6,19 @@ use Rattle.std.proofs.lemmas.List.Elements.{All-map}
 use Rattle.rack_tree.proofs.Distances.{within_reach}
 use Rattle.wave_problem.specs.Wave.{IsWithinLimits, Split}
 use Rattle.wave_problem.specs.declared.lines.WorkerLine.{WorkerLine}
+use Rattle.wave_arrays.specs.declared.array_rows.BarredRows.{BarredRows}
+use Rattle.wave_arrays.specs.declared.array_rows.BarredRows.TheVariants.{Narrow, Wide}
 use Rattle.wave_arrays.specs.declared.array_rows.SplitRow.{SplitRow}
 use Rattle.wave_arrays.specs.declared.array_rows.WaveRows.{WaveRows}
-use Rattle.wave_arrays.specs.Rows.{AreFit, IsSplitFit, split_of, tree_in, wave_in, worker_of}
+use Rattle.wave_arrays.specs.Rows.{AreFit, IsSplitFit, most_splits, split_of, tree_in, wave_in, worker_of}
 
 few_holders : (holders : List ℕ) (row : SplitRow) → IsSplitFit (length holders) row
     → length (split_of holders row).holders ≤ 8
 few_holders holders row fit = grind (arith, length-take)
+
+few_splits : (rows : BarredRows) → most_splits rows ≤ 131072
+few_splits (Narrow rows) = omega arith
+few_splits (Wide rows) = omega arith
 
 pub within_limits : (rows : WaveRows) → AreFit rows → IsWithinLimits (wave_in rows)
 within_limits rows fit =
@@ -20,7 +26,7 @@ within_limits rows fit =
     let lines = split_of rows.holders.now in
     record {
       near = within_reach (tree_in rows) fit.racks.known;
-      few_splits = omega (arith, length-map rows.splits.now lines, fit.splits.few);
+      few_splits = omega (arith, length-map rows.splits.now lines, fit.splits.few, few_splits rows.barred);
       few_workers = omega (arith, workers, fit.workers.few);
       one_line_each = workers ∙ sym (length-map rows.workers.now (λ row. row.rack));
       slots = All-map (λ (line : WorkerLine). line.free ≤ 255) worker_of rows.workers.now fit.workers.slots;

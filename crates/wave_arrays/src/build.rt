@@ -1,12 +1,13 @@
 //! The problem that rows make.
-ghost use Rattle.std.specs.Prelude.{◌≡◌, ◌<◌, length, map, All, IfOk, OnOk};
+ghost use Rattle.std.specs.Prelude.{◌≡◌, ◌<◌, ◌≤◌, length, map, All, IfOk, OnOk};
 ghost use Rattle.node_ids.specs.Sets.{with_pair};
 ghost use Rattle.rack_tree.specs.declared.TheConstants.{MAX_CENTRES, MAX_WORKERS};
 ghost use Rattle.wave_arrays.specs.Rows.{AreFit, AreRacksFit, AreWorkersFit, IsPairKnown, IsSplitFit};
-ghost use Rattle.wave_arrays.specs.Rows.{TheBarredAreThoseListed, barred_in, split_of, tree_in, wave_in};
-ghost use Rattle.wave_arrays.specs.Rows.{worker_of};
+ghost use Rattle.wave_arrays.specs.Rows.{TheBarredAreThoseListed, barred_in, pairs_in, split_of, tree_in};
+ghost use Rattle.wave_arrays.specs.Rows.{wave_in, worker_of};
+ghost use Rattle.wave_problem.specs.declared.TheConstants.{MAX_SPLITS};
 
-use crate::array_rows::{PairRow, SplitRow, WaveRows, WorkerRow};
+use crate::array_rows::{BarredRows, SplitRow, WaveRows, WidePairRow, WorkerRow};
 use node_ids::{CentreNo, PairSet, RackNo, SplitNo, WorkerNo};
 use rack_tree::RackTree;
 use std::alloc::{AllocError, Global};
@@ -20,7 +21,7 @@ pub fn build_problem(alloc: Global, rows: &WaveRows<'_>) -> Result<Problem, Allo
     let workers = build_workers(alloc, rows.workers)?;
     let holders = numbered(alloc, rows.holders)?;
     let splits = build_splits(alloc, &holders, rows.splits)?;
-    let barred = build_barred(alloc, rows.splits.len(), rows.barred)?;
+    let barred = build_barred(alloc, rows.splits.len(), &rows.barred)?;
     let tree = build_tree(alloc, rows)?;
     Problem::within_limits(alloc, tree, workers, &splits, barred)
 }
@@ -81,22 +82,24 @@ fn worker_line(row: &WorkerRow) -> WorkerLine
 }
 
 // The set of these barred pairs, of so many splits.
-fn build_barred(alloc: Global, splits: usize, pairs: &[PairRow]) -> Result<PairSet, AllocError>
-    requires { All (IsPairKnown splits MAX_WORKERS) pairs.now }
-    ensures { IfOk result (λ set. set ≡ barred_in splits pairs.now) }
+fn build_barred(alloc: Global, splits: usize, pairs: &BarredRows<'_>) -> Result<PairSet, AllocError>
+    requires known { All (IsPairKnown splits MAX_WORKERS) (pairs_in pairs.now) }
+    requires few { splits ≤ MAX_SPLITS }
+    ensures { IfOk result (λ set. set ≡ barred_in splits (pairs_in pairs.now)) }
 {
     let mut set = PairSet::new(alloc, splits)?;
-    for pair in pairs {
-        bar(&mut set, *pair)?;
+    for place in 0..pairs.len() {
+        bar(&mut set, pairs.at(place))?;
     }
     Ok(set)
 }
 
-fn bar(set: &mut PairSet, pair: PairRow) -> Result<(), AllocError>
-    requires { pair.split < length set.old }
+fn bar(set: &mut PairSet, pair: WidePairRow) -> Result<(), AllocError>
+    requires split { pair.split < length set.old }
+    requires worker { pair.worker < MAX_WORKERS }
     ensures { OnOk result (set.new ≡ with_pair set.old pair.split pair.worker) }
 {
-    set.put(SplitNo::new(pair.split as u32), WorkerNo::new(pair.worker))
+    set.put(SplitNo::new(pair.split), WorkerNo::new(pair.worker as u16))
 }
 
 fn numbered(alloc: Global, numbers: &[u16]) -> Result<Vec<WorkerNo>, AllocError>

@@ -1,7 +1,7 @@
 //! Plans and prices as a caller's arrays.
 ghost use Rattle.std.specs.Prelude.{◌≡◌, ◌≢◌, ℕ, ◌<◌, ◌≤◌, ◌↔◌, IsTrue, length, map, All, IfOk, IfSome};
 ghost use Rattle.rack_tree.specs.declared.TheConstants.{MAX_WORKERS};
-ghost use Rattle.wave_arrays.specs.declared.TheConstants.{MAX_SPLITS};
+ghost use Rattle.wave_problem.specs.declared.TheConstants.{MAX_SPLITS};
 ghost use Rattle.wave_arrays.specs.Claims.{AreStartsFit, IsStartFit, prices_in, start_in};
 
 use node_ids::{SplitNo, WorkerNo};

@@ -6,8 +6,7 @@ ghost use Rattle.wave_arrays.specs.Rows.{AreBarsFit, AreFit, AreHoldersFit, AreR
 ghost use Rattle.wave_arrays.specs.Rows.{AreWorkersFit, IsPairKnown, IsSplitFit, split_of};
 ghost use Rattle.wave_arrays.specs.Refusals.{IsRefusal};
 
-use crate::MAX_SPLITS;
-use crate::array_rows::{PairRow, SplitRow, WaveRows};
+use crate::array_rows::{SplitRow, WaveRows, WidePairRow};
 use crate::places::{unfit_holders, unfit_pair, unfit_rack, unfit_split, unfit_worker};
 use rack_tree::{MAX_CENTRES, MAX_RACKS, MAX_WORKERS};
 use thiserror::Error;
@@ -71,7 +70,7 @@ fn are_workers_fit(rows: &WaveRows<'_>) -> bool
 fn are_splits_fit(rows: &WaveRows<'_>) -> bool
     ensures { IsTrue result ↔ AreSplitsFit rows.now }
 {
-    rows.splits.len() <= MAX_SPLITS && unfit_split(rows).is_none()
+    rows.splits.len() <= rows.barred.most_splits() && unfit_split(rows).is_none()
 }
 
 pub(crate) fn is_split_fit(holders: usize, row: &SplitRow) -> bool
@@ -88,8 +87,8 @@ fn are_bars_fit(rows: &WaveRows<'_>) -> bool
     unfit_pair(rows).is_none()
 }
 
-pub(crate) fn is_pair_known(splits: usize, workers: usize, pair: &PairRow) -> bool
-    ensures { IsTrue result ↔ IsPairKnown splits workers pair.now }
+pub(crate) fn is_pair_known(splits: usize, workers: usize, pair: WidePairRow) -> bool
+    ensures { IsTrue result ↔ IsPairKnown splits workers pair }
 {
     (pair.split as usize) < splits && (pair.worker as usize) < workers
 }

@@ -2,8 +2,9 @@
 //!
 //! `test_rows` tests the rows kind by kind, before any memory is taken, and finds the first row that is not
 //! fit. `build_problem` makes of fit rows the one problem that `specs/Rows.antt` names, or finds no memory.
-//! Other calls make a plan and prices of such arrays, and write a plan and prices into them. The crate stands
-//! on `wave_problem` and `price_certificate`; `mrjob_c` offers it to callers in C.
+//! Other calls make a plan and prices of such arrays, and write a plan and prices into them. A caller's wave is
+//! narrow or wide, as its barred pairs number splits in 16 bits or in 32; either gives the same `WaveRows`. The
+//! crate stands on `wave_problem` and `price_certificate`; `mrjob_c` offers it to callers in C.
 #![tactic(auto)]
 
 mod array_rows;
@@ -12,7 +13,9 @@ mod claims;
 mod fit;
 mod places;
 
-pub use array_rows::{PairRow, SplitRow, WaveRows, WorkerRow};
+pub use array_rows::{
+    BarredRows, NarrowWave, PairRow, SplitRow, WaveRows, WidePairRow, WideWave, WorkerRow,
+};
 pub use build::{build_problem, the_barred_are_those_listed};
 pub use claims::{
     NO_WORKER, are_starts_fit, plan_of, prices_of, write_split_prices, write_starts,
@@ -21,5 +24,5 @@ pub use claims::{
 pub use fit::{RowsError, test_rows};
 pub use places::{unfit_holders, unfit_pair, unfit_rack, unfit_split, unfit_start, unfit_worker};
 
-/// How many splits the rows of a wave hold at most: as many as 16 bits number, with one number kept for none.
-pub const MAX_SPLITS: usize = 65_535;
+/// How many splits a narrow wave has at most: as many as 16 bits number, with one number kept for none.
+pub const MAX_NARROW_SPLITS: usize = 65_535;

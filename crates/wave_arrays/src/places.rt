@@ -2,7 +2,7 @@
 ghost use Rattle.std.specs.Prelude.{◌<◌, ◌↔◌, IsTrue, length};
 ghost use Rattle.wave_arrays.specs.Claims.{IsStartFit};
 ghost use Rattle.wave_arrays.specs.Places.{HasFitHolders, IsFirstUnfit, IsWorkerFit};
-ghost use Rattle.wave_arrays.specs.Rows.{IsPairKnown, IsSplitFit};
+ghost use Rattle.wave_arrays.specs.Rows.{IsPairKnown, IsSplitFit, pairs_in};
 
 use crate::array_rows::{SplitRow, WaveRows, WorkerRow};
 use crate::claims::is_start_fit;
@@ -57,11 +57,11 @@ pub fn unfit_split(rows: &WaveRows<'_>) -> Option<usize>
 /// The first barred pair of no split or of no worker.
 pub fn unfit_pair(rows: &WaveRows<'_>) -> Option<usize>
     ensures { IsFirstUnfit (IsPairKnown (length rows.now.splits.now) (length rows.now.workers.now))
-        rows.now.barred.now result }
+        (pairs_in rows.now.barred) result }
 {
     let (splits, workers) = (rows.splits.len(), rows.workers.len());
     for place in 0..rows.barred.len() {
-        if !is_pair_known(splits, workers, &rows.barred[place]) {
+        if !is_pair_known(splits, workers, rows.barred.at(place)) {
             return Some(place);
         }
     }
