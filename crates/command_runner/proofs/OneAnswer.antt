@@ -15,20 +15,17 @@ outcome-injective a b same = cc
 
 pub wrote_its_answer : {End : Type 0} (Answers : List ℕ → Result End TextFault → List ℕ → Type 0)
     (SameEnd : Result End TextFault → Result End TextFault → Type 0) (Alike : List ℕ → List ℕ → Type 0)
-    (unread old new : Option (List ℕ)) (read text line bytes : List ℕ) (mine : Result End TextFault)
+    (unread old new : Option (List ℕ)) (read text line : List ℕ) (mine : Result End TextFault)
     (result : Result End ToolError) → HasOneAnswer Answers SameEnd Alike → result ≡ outcome mine
-    → IfSome unread (λ input. read ≡ take (most_read_of input) input) → text ≡ read → Answers text mine line →
-    bytes ≡ line
-    → Appends old new bytes → WroteItsAnswer Answers SameEnd Alike unread old new result
-wrote_its_answer Answers SameEnd Alike None old new read text line bytes mine result one ended given shown
-    answers told
+    → IfSome unread (λ input. read ≡ take (most_read_of input) input) → text ≡ read → Answers text mine line
+    → Appends old new line → WroteItsAnswer Answers SameEnd Alike unread old new result
+wrote_its_answer Answers SameEnd Alike None old new read text line mine result one ended given shown answers
     appended = λ end is. tt
-wrote_its_answer Answers SameEnd Alike (Some input) old new read text line bytes mine result one ended given
-    shown answers
-    told appended = λ end is other said right.
+wrote_its_answer Answers SameEnd Alike (Some input) old new read text line mine result one ended given shown
+    answers appended = λ end is other said right.
     let own = outcome-injective end mine (sym is ∙ ended) in
     let ours = subst (λ t. Answers t mine line) (shown ∙ given) answers in
     let both = one (take (most_read_of input) input) mine other line said ours right in (
       subst (λ e. SameEnd e other) (sym own) both.0,
-      record { written = line; answers = both.1; appended = subst (λ b. Appends old new b) told appended },
+      record { written = line; answers = both.1; appended = appended },
     )

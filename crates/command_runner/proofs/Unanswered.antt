@@ -95,16 +95,15 @@ unanswered Answers IsFull unread left old read text none.HistoryFull result told
 -- ---- an answer was made
 
 module _ {End : Type 0} (Answers : List ℕ → Result End TextFault → List ℕ → Type 0)
-    (IsFull : List ℕ → Type 0) (unread left old new : Option (List ℕ)) (read text lines bytes : List ℕ)
+    (IsFull : List ℕ → Type 0) (unread left old new : Option (List ℕ)) (read text lines : List ℕ)
     (mine : Result End TextFault) (given : IfSome unread (λ input. read ≡ take (most_read_of input) input))
-    (shown : text ≡ read) (answers : Answers text mine lines) (told : bytes ≡ lines)
-    (few : ConsumesText unread left) where
+    (shown : text ≡ read) (answers : Answers text mine lines) (few : ConsumesText unread left) where
   was_read : IfSome unread (λ input. text ≡ take (most_read_of input) input)
   was_read = subst (λ t. IfSome unread (λ input. t ≡ take (most_read_of input) input)) (sym shown) given
 
   -- and was not written, or not whole
   pub unwritten : (result : Result End ToolError) → IsErrAnd result (λ e. e ≡ Write)
-      → AppendsFront old new bytes → HasRun Answers IsFull unread left old new result
+      → AppendsFront old new lines → HasRun Answers IsFull unread left old new result
   unwritten result error front =
       failed Answers IsFull unread left old new result Write (is_error Write result error) (λ it. it)
       (λ it. absurd cc) (λ it. absurd cc)
@@ -114,7 +113,7 @@ module _ {End : Type 0} (Answers : List ℕ → Result End TextFault → List �
         holds = record {
           meant = lines;
           answers = record { end = mine; answers = answers };
-          appended = subst (λ b. AppendsFront old new b) told front;
+          appended = front;
         };
       })
       (λ it. absurd cc) few
@@ -124,7 +123,7 @@ module _ {End : Type 0} (Answers : List ℕ → Result End TextFault → List �
   no_want e result ended no_text is = no_text (end_is_text mine e (sym ended ∙ is))
 
   -- and was written
-  pub written : (result : Result End ToolError) → result ≡ outcome mine → Appends old new bytes
+  pub written : (result : Result End ToolError) → result ≡ outcome mine → Appends old new lines
       → HasRun Answers IsFull unread left old new result
   written result ended appended = record {
     answered = λ end is. record {
@@ -133,7 +132,7 @@ module _ {End : Type 0} (Answers : List ℕ → Result End TextFault → List �
       holds = record {
         written = lines;
         answers = subst (λ e. Answers text e lines) (outcome-injective mine end (sym ended ∙ is)) answers;
-        appended = subst (λ b. Appends old new b) told appended;
+        appended = appended;
       };
     };
     memory = λ it. absurd (no_want Memory result ended (λ no. no) it);

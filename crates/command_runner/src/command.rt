@@ -1,12 +1,13 @@
-ghost use Rattle.std.specs.Prelude.{◌≡◌, ⊤, ℕ, List, Err, IfOk, string_bytes};
+ghost use Rattle.std.specs.Prelude.{◌≡◌, ⊤, ℕ, List, Err, IfOk};
 ghost use Rattle.std.specs.declared.result.Result.{Result};
 ghost use Rattle.text_lines.specs.declared.fault.TextFault.{TextFault};
 ghost use Rattle.command_runner.specs.CommandRun.{HasOneAnswer, HasRun, NoText, WroteItsAnswer, outcome};
 
+use crate::lines::AnswerLines;
 use crate::tool_error::{NoAnswer, ToolError};
 use std::alloc::Global;
 use std::io::{Read, Write};
-use text_lines::{TextFault, read_text, write_text};
+use text_lines::{TextFault, read_text};
 
 /// A command that answers a text. `Answers` relates a text to the command's end and the lines that answer it.
 /// Any two ends of one text are the `SameEnd`, and any two answers `Alike`; by default both mean equal.
@@ -14,6 +15,9 @@ use text_lines::{TextFault, read_text, write_text};
 pub trait Command {
     /// How the command ends that was answered without a fault of its text.
     type End: Drop;
+
+    /// What writes the lines of an answer.
+    type Lines: AnswerLines + Drop;
 
     ghost ready: { Self → Type 0 } = { λ _. ⊤ };
 
@@ -30,15 +34,17 @@ pub trait Command {
         &self,
         alloc: Global,
         text: &[u8],
-    ) -> Result<(String, Result<Self::End, TextFault>), NoAnswer>
+    ) -> Result<(Self::Lines, Result<Self::End, TextFault>), NoAnswer>
         requires { ready self.now }
-        ensures answers { IfOk result (λ given. Answers self.now text.now given.1 (string_bytes given.0)) }
+        ensures answers { IfOk result (λ given.
+            Answers self.now text.now given.1 (Self.Lines.bytes given.0)) }
         ensures full { result ≡ Err NoAnswer.HistoryFull → IsFull self.now text.now };
 
     ghost one_answer: { (command : Self) → HasOneAnswer (Answers command) SameEnd Alike };
 }
 
-/// Reads a text, and writes the command's answer to it. All lines are made before the first byte is written.
+/// Reads a text, and writes the command's answer to it. All that asks for memory is done before the first byte
+/// is written.
 pub fn run_command<C: Command, R: Read, W: Write>(
     command: &C,
     alloc: Global,
@@ -53,7 +59,7 @@ pub fn run_command<C: Command, R: Read, W: Write>(
 {
     let text = read_text(alloc, reader)?;
     let (lines, end) = command.answer(alloc, text.as_slice())?;
-    write_text(writer, lines.as_bytes())?;
+    lines.write_to(writer)?;
     ended(end)
 }
 

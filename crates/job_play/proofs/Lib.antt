@@ -8,3 +8,4 @@ pub mod Started
 pub mod Handed
 pub mod Growth
 pub mod Answered
+pub mod Made

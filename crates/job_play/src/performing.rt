@@ -1,10 +1,12 @@
 ghost use Rattle.std.specs.Prelude.{◌≡◌, ◌≢◌, ℕ, ◌<◌, ◌≤◌, All, Err, OnOk, length, string_bytes};
 ghost use Rattle.master_state.specs.declared.TheConstants.{MAX_JOB_WORKERS};
+ghost use Rattle.report_lines.specs.Reports.{report_bytes};
 ghost use Rattle.script_text.specs.declared.script.Command.TheVariants as asked;
 ghost use Rattle.job_play.specs.Reports.{IsKnownCommand, LacksRoom, alone, deaths, padded, set_of};
 ghost use Rattle.master_state.specs.Refusals.{Call, IsPair};
 ghost use Rattle.job_play.specs.Given.{HoldsRuns};
 ghost use Rattle.job_play.specs.Playing.{IsAnswered, Performed};
+ghost use Rattle.script_text.specs.declared.script.Names.{Names};
 
 use crate::given::GivenRuns;
 use crate::handing::{done, fail};
@@ -15,7 +17,8 @@ use master_core::Master;
 use master_state::{Answer, Why};
 use node_ids::{SplitNo, WorkerNo};
 use report_lines::{
-    add_accepted, add_answer, add_backup, add_copies, add_dead, add_ignored, add_reduce,
+    ReportLines, add_accepted, add_answer, add_backup, add_copies, add_dead, add_ignored,
+    add_reduce,
 };
 use script_text::{Command, Names, Script};
 use std::alloc::{AllocError, Global};
@@ -44,6 +47,45 @@ pub fn perform(
         Command::Reduce => Ok(reduce(alloc, master, given, &script.names, lines)?),
         _ => Ok(tell(alloc, master, given, script, command, lines)?),
     }
+}
+
+/// The same, in a report that keeps copies as their orders.
+pub(crate) fn perform_in_report(
+    alloc: Global,
+    master: &mut Master,
+    given: &mut GivenRuns,
+    script: &Script<'_>,
+    command: &Command,
+    lines: &mut ReportLines,
+) -> Result<(), PlayError>
+    requires known { IsKnownCommand master.old.setup command.now }
+    requires names { length script.now.names.workers ≤ MAX_JOB_WORKERS }
+    requires given { HoldsRuns given.old master.old }
+    ensures given { OnOk result (HoldsRuns given.new master.new) }
+    ensures ok { OnOk result (Performed script.now.names script.now.target master.old command.now
+        (report_bytes script.now.names.splits script.now.names.workers lines.old)
+        (report_bytes script.now.names.splits script.now.names.workers lines.new) master.new) }
+    ensures full { result ≡ Err PlayError.HistoryFull → (command.now ≡ asked.Wave) × LacksRoom master.old }
+{
+    match command {
+        Command::Copies => Ok(keep_copies(alloc, master, script.target, lines)?),
+        _ => perform(alloc, master, given, script, command, &mut lines.last),
+    }
+}
+
+// Keeps the copies that are wanted now.
+fn keep_copies(
+    alloc: Global,
+    master: &Master,
+    target: usize,
+    lines: &mut ReportLines,
+) -> Result<(), AllocError>
+    ensures { (names : Names) → OnOk result (Performed names target master.now asked.Copies
+        (report_bytes names.splits names.workers lines.old)
+        (report_bytes names.splits names.workers lines.new) master.now) }
+{
+    let orders = master.copy_orders(alloc, target)?;
+    lines.add_copies(alloc, orders)
 }
 
 // Performs a command that starts neither a wave nor a part, and tells what was answered.

@@ -1,13 +1,15 @@
-ghost use Rattle.std.specs.Prelude.{◌≡◌, Err, IfOk, OnOk, length, string_bytes};
+ghost use Rattle.std.specs.Prelude.{◌≡◌, Err, IfOk, OnOk, length};
+ghost use Rattle.report_lines.specs.Reports.{made_bytes, report_bytes};
 ghost use Rattle.job_play.specs.Reports.{IsReport, opening_job};
 ghost use Rattle.job_play.specs.Playing.{PerformedAll};
 ghost use Rattle.job_play.specs.Rooms.{IsScriptFor, RunsOut, setup_for};
 
 use crate::ending::add_end;
 use crate::given::GivenRuns;
-use crate::performing::perform;
+use crate::performing::perform_in_report;
 use crate::rooms::limits_for;
 use master_core::{Cluster, Master};
+use report_lines::{MadeReport, ReportLines};
 use script_text::Script;
 use std::alloc::{AllocError, Global};
 use thiserror::Error;
@@ -45,7 +47,7 @@ impl From<AllocError> for PlayError {
 #[derive(Drop)]
 pub struct Report {
     pub end: PlayEnd,
-    pub lines: String,
+    pub lines: MadeReport,
 }
 
 /// Who is told how far a script is.
@@ -69,7 +71,7 @@ pub fn play_script(
 ) -> Result<Report, PlayError>
     requires { IsScriptFor (setup_for cluster script.now) script.now }
     ensures report { IfOk result (λ report.
-        IsReport (setup_for cluster script.now) script.now report.end (string_bytes report.lines)) }
+        IsReport (setup_for cluster script.now) script.now report.end (made_bytes report.lines)) }
     ensures full { result ≡ Err PlayError.HistoryFull → RunsOut cluster script.now }
 {
     play_script_observed(alloc, cluster, script, &Unobserved)
@@ -84,7 +86,7 @@ pub fn play_script_observed<O: ScriptObserver>(
 ) -> Result<Report, PlayError>
     requires { IsScriptFor (setup_for cluster script.now) script.now }
     ensures report { IfOk result (λ report.
-        IsReport (setup_for cluster script.now) script.now report.end (string_bytes report.lines)) }
+        IsReport (setup_for cluster script.now) script.now report.end (made_bytes report.lines)) }
     ensures full { result ≡ Err PlayError.HistoryFull → RunsOut cluster script.now }
 {
     let limits = limits_for(cluster.splits().len(), script.commands.as_slice());
@@ -102,13 +104,15 @@ fn report_of<O: ScriptObserver>(
     requires script { IsScriptFor master.old.setup script.now }
     requires opening { master.old ≡ opening_job (setup_for master.old.setup.cluster script.now) }
     ensures report { IfOk result (λ report. IsReport (setup_for master.old.setup.cluster script.now) script.now
-        report.end (string_bytes report.lines)) }
+        report.end (made_bytes report.lines)) }
     ensures full { result ≡ Err PlayError.HistoryFull → RunsOut master.old.setup.cluster script.now }
 {
-    let mut lines = String::new(alloc);
+    let names = &script.names;
+    let mut lines = ReportLines::new(alloc);
     perform_all(alloc, master, script, observer, &mut lines)?;
-    let end = add_end(alloc, master, &script.names, &mut lines)?;
+    let end = add_end(alloc, master, names, &mut lines.last)?;
     master.is_kept();
+    let lines = MadeReport::new(alloc, &names.splits, &names.workers, lines)?;
     Ok(Report { end, lines })
 }
 
@@ -118,20 +122,21 @@ fn perform_all<O: ScriptObserver>(
     master: &mut Master,
     script: &Script<'_>,
     observer: &O,
-    lines: &mut String,
+    lines: &mut ReportLines,
 ) -> Result<(), PlayError>
     requires script { IsScriptFor master.old.setup script.now }
     requires opening { master.old ≡ opening_job (setup_for master.old.setup.cluster script.now) }
     ensures setup { OnOk result (master.new.setup ≡ master.old.setup) }
     ensures ok { OnOk result (PerformedAll script.now.names script.now.target master.old
-        script.now.commands.items (string_bytes lines.old) (string_bytes lines.new) master.new) }
+        script.now.commands.items (report_bytes script.now.names.splits script.now.names.workers lines.old)
+        (report_bytes script.now.names.splits script.now.names.workers lines.new) master.new) }
     ensures full { result ≡ Err PlayError.HistoryFull → RunsOut master.old.setup.cluster script.now }
 {
     master.is_kept();
     let mut given = GivenRuns::new(alloc, master.cluster().parts())?;
     let mut performed: usize = 0;
     for command in &script.commands {
-        perform(alloc, master, &mut given, script, command, lines)?;
+        perform_in_report(alloc, master, &mut given, script, command, lines)?;
         performed = performed.saturating_add(1);
         observer.performed(performed, script.commands.len());
     }

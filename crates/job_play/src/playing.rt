@@ -1,7 +1,8 @@
-ghost use Rattle.std.specs.Prelude.{◌≡◌, Err, IfOk, string_bytes};
+ghost use Rattle.std.specs.Prelude.{◌≡◌, Err, IfOk};
 ghost use Rattle.command_runner.specs.CommandRun.{HasRun, AnyLines};
 ghost use Rattle.script_text.specs.Heads.{IsFitHead};
 ghost use Rattle.script_text.specs.Scripts.{IsOfHead};
+ghost use Rattle.report_lines.specs.Reports.{made_bytes};
 ghost use Rattle.job_play.specs.Reports.{IsReport};
 ghost use Rattle.job_play.specs.Rooms.{RunsOut, setup_for};
 ghost use Rattle.job_play.specs.PlayAnswer.{AreEnds, PlayAnswer, RunsOutIn, cluster_in};
@@ -11,13 +12,14 @@ use crate::clusters::cluster_of;
 use crate::player::{PlayEnd, PlayError, Report, ScriptObserver, Unobserved, play_script_observed};
 use command_runner::{Command, NoAnswer, ToolError, run_command};
 use line_rules::fault_answer;
+use report_lines::MadeReport;
 use script_text::{Head, Script, ScriptText, read_script};
 use std::alloc::Global;
 use std::io::{Read, Write};
 use text_lines::TextFault;
 
 /// Reads a script, plays it on a new master of its cluster, and writes its report, or the text's least
-/// fault. All lines are made before their first byte is written.
+/// fault. All that asks for memory is done before the first byte is written.
 pub fn play<R: Read, W: Write>(
     alloc: Global,
     reader: &mut R,
@@ -51,6 +53,8 @@ pub struct Player<'a, O: ScriptObserver> {
 impl<'a, O: ScriptObserver> Command for Player<'a, O> {
     type End = PlayEnd;
 
+    type Lines = MadeReport;
+
     ghost Answers = { λ _. PlayAnswer };
 
     ghost SameEnd = { AreEnds };
@@ -65,7 +69,7 @@ impl<'a, O: ScriptObserver> Command for Player<'a, O> {
         &self,
         alloc: Global,
         text: &[u8],
-    ) -> Result<(String, Result<PlayEnd, TextFault>), NoAnswer> {
+    ) -> Result<(MadeReport, Result<PlayEnd, TextFault>), NoAnswer> {
         match read_script(alloc, text) {
             Ok(read) => {
                 let ScriptText { head, script } = read;
@@ -74,7 +78,7 @@ impl<'a, O: ScriptObserver> Command for Player<'a, O> {
             }
             Err(error) => {
                 let (line, fault) = fault_answer(alloc, error)?;
-                Ok((line, Err(fault)))
+                Ok((MadeReport::of_text(alloc, line)?, Err(fault)))
             }
         }
     }
@@ -104,7 +108,7 @@ fn play_on<O: ScriptObserver>(
     requires fit { IsFitHead head }
     requires known { IsOfHead head script.now }
     ensures report { IfOk result (λ report. IsReport (setup_for (cluster_in head) script.now) script.now
-        report.end (string_bytes report.lines)) }
+        report.end (made_bytes report.lines)) }
     ensures full { result ≡ Err PlayError.HistoryFull → RunsOut (cluster_in head) script.now }
 {
     let cluster = cluster_of(alloc, head)?;

@@ -1,7 +1,8 @@
 //! The lines of a report: what a master answered, by names; and of what stands.
 //!
 //! Each call appends the lines of one answer to a text in memory; its contract says which bytes these are, by
-//! the words of `specs/Lines.antt`. Names stand in tables by number, as a text declared them; a number past
+//! the words of `specs/Lines.antt`. A whole report has its copies as orders, and makes their lines as it is
+//! written (`specs/Reports.antt`). Names stand in tables by number, as a text declared them; a number past
 //! the last has the empty name. After an error the text may hold a front of the lines; its owner drops it.
 //! Below stand the answers of `master_state` and the entries of an index.
 #![tactic(auto)]
@@ -9,6 +10,8 @@
 mod answers;
 mod endings;
 mod history;
+mod own_names;
+mod report;
 mod standing;
 
 pub use answers::{
@@ -17,4 +20,5 @@ pub use answers::{
 };
 pub use endings::{add_index, add_stuck};
 pub use history::add_history;
+pub use report::{MadeReport, ReportLines, Turn};
 pub use standing::{add_open_parts, add_open_splits, add_outputs, add_workers};

@@ -1,3 +1,4 @@
+use command_runner::AnswerLines;
 use job_play::{PlayEnd, fits, play_script};
 use master_core::Cluster;
 use script_text::read_script;
@@ -17,14 +18,16 @@ fn cluster_of(alloc: Global, text: &str) -> Option<Cluster> {
 }
 
 // How a script ends on a cluster that it fits, and its report.
-fn played(alloc: Global, script: &str, on: &str) -> Option<(PlayEnd, String)> {
+fn played(alloc: Global, script: &str, on: &str) -> Option<(PlayEnd, Vec<u8>)> {
     let cluster = cluster_of(alloc, on)?;
     let script = read_script(alloc, script.as_bytes()).ok()?.script;
     if !fits(&cluster, &script) {
         return None;
     }
     let report = play_script(alloc, cluster, &script).ok()?;
-    Some((report.end, report.lines))
+    let mut lines = Vec::new(alloc);
+    report.lines.write_to(&mut lines).ok()?;
+    Some((report.end, lines))
 }
 
 #[test]
@@ -39,7 +42,7 @@ fn a_script_is_played_on_a_cluster_that_it_fits(rt: HostRuntime) {
         "accepted 1\nwave 1 0\nstart 1 s a\naccepted 2\naccepted 3\nreduce 2 0 a\naccepted 4\n\
                   index 2\nword cat d\nword the d\n";
     assert_eq!(rt; end, PlayEnd::Done);
-    assert_eq!(rt; lines.as_str(), wanted);
+    assert_eq!(rt; lines.as_slice(), wanted.as_bytes());
 }
 
 #[test]
@@ -48,4 +51,30 @@ fn a_script_does_not_fit_a_cluster_of_more_workers(rt: HostRuntime) {
     let cluster = "script 1\nrack r\nworker a r 1\nworker b r 1\nbegin\nend\n";
     assert!(rt; played(rt.alloc(), script, script).is_some());
     assert!(rt; played(rt.alloc(), script, cluster).is_none());
+}
+
+// (The report is worked by hand, and scripts/reference_play.py finds nothing wrong with it.)
+#[test]
+fn copies_are_those_of_their_place(rt: HostRuntime) {
+    let head = "script 1\nrack r\nrack q\nworker a r 1\nworker b r 1\nworker c q 1\nworker d q 1\n\
+                split s 10 a\nsplit t 20 a b\ntarget 2\nbegin\n";
+    let commands =
+        "copies\ncopies\nadd s c\ncopies\nlose s a\ndie b\ncopies\ncopies\njoin b t\ncopies\n\
+                    die c\ncopies\nend\n";
+    let script = format!(in rt.alloc(); "{head}{commands}").expect(&rt, "no memory");
+    let (end, lines) = played(rt.alloc(), script.as_str(), script.as_str()).expect(
+        &rt,
+        "not played",
+    );
+    let to_death =
+        "copies 1\ncopy s a c\ncopies 1\ncopy s a c\naccepted 1\ncopies 0\naccepted 2\naccepted 3\n";
+    let after = "copies 2\ncopy s c a\ncopy t a c\n";
+    let from_join =
+        "accepted 4\ncopies 1\ncopy s c a\naccepted 5\ncopies 0\nstuck 2\nopen s\nopen t\n";
+    let wanted = format!(in rt.alloc(); "{to_death}{after}{after}{from_join}").expect(
+        &rt,
+        "no memory",
+    );
+    assert_eq!(rt; end, PlayEnd::Stuck);
+    assert_eq!(rt; lines.as_slice(), wanted.as_bytes());
 }

@@ -114,6 +114,8 @@ pub struct Checker<C: Certifier>(C);
 impl<C: Certifier> Command for Checker<C> {
     type End = CheckEnd;
 
+    type Lines = String;
+
     ghost ready = { λ checker. C.ready checker.0 };
 
     ghost Answers = { λ _. CheckAnswer };

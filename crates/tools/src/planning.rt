@@ -45,6 +45,8 @@ pub struct Planner(PlanOptions);
 impl Command for Planner {
     type End = PlanEnd;
 
+    type Lines = String;
+
     ghost Answers = { λ planner text. PlanAnswer text planner.0.network planner.0.prices };
 
     ghost Alike = { AnyLines };

@@ -7,20 +7,20 @@ use Rattle.job_play.proofs.player.perform_all.Goals as goal
 
 pub loop-command-preserved : goal.loop-command-preserved
 loop-command-preserved g c =
-    let done = c.in_ok-perform.ensures.ok in
+    let done = c.in_ok-perform_in_report.ensures.ok in
     record {
       setup = performed_setup done ∙ c.loop-command.invariant.setup;
-      given = c.in_ok-perform.ensures.given;
+      given = c.in_ok-perform_in_report.ensures.given;
       performed = performed_more _ _ _ _ _ c.deref-command-items.result.now c.loop-command.command-index
           c.command-item.result _ _ _ (search rules) c.command-item.is c.loop-command.invariant.performed
           done;
     }
 
-pub returns-in_err-perform-clause-full : goal.returns-in_err-perform-clause-full
-returns-in_err-perform-clause-full g c full =
-    let left = c.from_residual-in_err-perform in
-    let is = err_is left.result c.in_err-perform.field-0.0 left.ensures.1 in
-    let wave = c.in_err-perform.ensures.full (sym is ∙ full) in
+pub returns-in_err-perform_in_report-clause-full : goal.returns-in_err-perform_in_report-clause-full
+returns-in_err-perform_in_report-clause-full g c full =
+    let left = c.from_residual-in_err-perform_in_report in
+    let is = err_is left.result c.in_err-perform_in_report.field-0.0 left.ensures.1 in
+    let wave = c.in_err-perform_in_report.ensures.full (sym is ∙ full) in
     runs_out c.args.script.now c.deref-command-items.result.now c.args.master.now _
     c.loop-command.command-index
     c.command-item.result _ _ (search rules) c.requires.opening (search rules) c.command-item.is wave.0

@@ -1,4 +1,5 @@
-use Rattle.std.proofs.Common.{◌≡◌, string_bytes, take}
+use Rattle.std.proofs.Common.{◌≡◌, take}
+use Rattle.report_lines.specs.Reports.{report_bytes}
 use Rattle.job_play.specs.Given.{HoldsRuns}
 use Rattle.job_play.specs.Playing.{PerformedAll}
 use Rattle.job_play.proofs.player.perform_all.Given as goal
@@ -9,5 +10,6 @@ invariant-loop-command g l = record {
   given : HoldsRuns l.given l.master;
   performed : PerformedAll l.script.names l.script.target l.initial.master
       (take l.command-index l.command-items)
-      (string_bytes l.initial.lines) (string_bytes l.lines) l.master;
+      (report_bytes l.script.names.splits l.script.names.workers l.initial.lines)
+      (report_bytes l.script.names.splits l.script.names.workers l.lines) l.master;
 }
