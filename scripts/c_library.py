@@ -180,7 +180,8 @@ def shown():
     """Of the names that the archive has, the shared library shows mrjob_* alone."""
     is_there = lambda name: hasattr(ctypes.CDLL(library.place()), name)
     names = exported(ROOT / "lib/libmrjob.a")
-    ours = {"mrjob_plan", "mrjob_check", "mrjob_unfit", "mrjob_version"}
+    calls = {"mrjob_plan", "mrjob_check", "mrjob_unfit"}
+    ours = {"mrjob_version", *calls, *(f"{it}_wide" for it in calls)}
     return ours < set(names) and all(is_there(it) == (it in ours) for it in names) or print(names)
 
 
