@@ -22,21 +22,22 @@ returns-in_err-lines-clause-ran g c =
 pub returns-in_err-write_text-clause-ran : goal.returns-in_err-write_text-clause-ran
 returns-in_err-write_text-clause-ran g c =
     unwritten (RunAnswer c.args.asked) NoText _ _ _ _ c.in_ok-text.text.items c.as_slice.result.now
-    (string_bytes c.in_ok-lines.lines) c.as_bytes.result.now c.in_ok-lines.end c.in_ok-text.ensures.read
-    c.as_slice.ensures.value c.in_ok-lines.ensures.answer c.as_bytes.ensures.value
-    c.in_ok-text.ensures.unread c.from_residual-in_err-write_text.result
-    c.from_residual-in_err-write_text.ensures.1 c.in_err-write_text.ensures.err
+    (string_bytes c.in_ok-lines.lines) c.in_ok-lines.end c.in_ok-text.ensures.read
+    c.as_slice.ensures.value c.in_ok-lines.ensures.answer c.in_ok-text.ensures.unread
+    c.from_residual-in_err-write_text.result c.from_residual-in_err-write_text.ensures.1
+    (rw c.as_bytes.ensures.value at c.in_err-write_text.ensures.err)
 
 pub returns-clause-ran : goal.returns-clause-ran
 returns-clause-ran g c =
     written (RunAnswer c.args.asked) NoText _ _ _ _ c.in_ok-text.text.items c.as_slice.result.now
-    (string_bytes c.in_ok-lines.lines) c.as_bytes.result.now c.in_ok-lines.end c.in_ok-text.ensures.read
-    c.as_slice.ensures.value c.in_ok-lines.ensures.answer c.as_bytes.ensures.value c.in_ok-text.ensures.unread
-    c.ended.result c.ended.ensures c.in_ok-write_text.ensures.ok
+    (string_bytes c.in_ok-lines.lines) c.in_ok-lines.end c.in_ok-text.ensures.read c.as_slice.ensures.value
+    c.in_ok-lines.ensures.answer c.in_ok-text.ensures.unread c.ended.result c.ended.ensures
+    (rw c.as_bytes.ensures.value at c.in_ok-write_text.ensures.ok)
 
 pub returns-clause-same : goal.returns-clause-same
 returns-clause-same g c =
     wrote_its_answer (RunAnswer c.args.asked) AreEnds AnyLines _ _ _ c.in_ok-text.text.items
-    c.as_slice.result.now (string_bytes c.in_ok-lines.lines) c.as_bytes.result.now c.in_ok-lines.end
+    c.as_slice.result.now (string_bytes c.in_ok-lines.lines) c.in_ok-lines.end
     c.ended.result (one_run_answer c.args.asked) c.ended.ensures c.in_ok-text.ensures.read
-    c.as_slice.ensures.value c.in_ok-lines.ensures.answer c.as_bytes.ensures.value c.in_ok-write_text.ensures.ok
+    c.as_slice.ensures.value c.in_ok-lines.ensures.answer
+    (rw c.as_bytes.ensures.value at c.in_ok-write_text.ensures.ok)
