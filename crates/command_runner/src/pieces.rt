@@ -11,8 +11,8 @@ use text_lines::{WriteError, write_text};
 /// The most bytes that wait for the writer.
 pub const PIECE_BYTES: usize = 65_536;
 
-/// Bytes that wait for their writer. They go to it when those that come next have no room, so a long text is
-/// written by few calls. Only `new` asks for memory.
+/// A buffer in front of a writer. It is written when the next bytes do not fit into it, so a long text takes few
+/// calls. Only `new` asks for memory.
 #[derive(Drop)]
 pub struct Piece {
     waiting: Vec<u8>,
@@ -39,7 +39,7 @@ impl Piece {
         })
     }
 
-    /// The bytes come after those that wait.
+    /// Puts bytes behind the ones in the buffer.
     pub fn put<W: Write>(&mut self, writer: &mut W, bytes: &[u8]) -> Result<(), WriteError>
         ensures ok { OnOk result (Moves (W.contents writer.old) (W.contents writer.new)
             (self.old ++ bytes.now) self.new) }

@@ -19,7 +19,7 @@ performed_behind {names} {target} {old} {new} {c} {before} {now} front done = re
   written = ap (λ (t : List ℕ). front ++ t) done.written ∙ sym (append_assoc front before done.out);
 }
 
--- the lines of all commands, the last of them behind a front, and then those of the end
+-- the lines of all commands, of which the last ones stand behind a front, and then the lines of the end
 pub report_is : (setup : Setup) (script : Script) (finish : PlayEnd) (last : Job)
     (before mid front old_last new_last all : List ℕ)
     → PerformedAll script.names script.target (opening_job setup) script.commands.items before mid last

@@ -55,7 +55,7 @@ impl ReportLines {
         Ok(())
     }
 
-    // The orders, as those of the last turn where these are the same.
+    // The orders, which share the list of the last turn if that list is equal.
     fn kept(&self, alloc: Global, orders: Vec<CopyOrder>) -> Result<Arc<Vec<CopyOrder>>, AllocError>
         ensures { IfOk result (λ kept. (arc_value kept).items ≡ orders.items) }
     {

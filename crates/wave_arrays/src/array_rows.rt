@@ -121,6 +121,7 @@ pub enum BarredRows<'a> {
 }
 
 impl<'a> BarredRows<'a> {
+    /// How many pairs there are.
     pub fn len(&self) -> usize
         ensures { result ≡ length (pairs_in self.now) }
     {

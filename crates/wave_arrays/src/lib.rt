@@ -2,7 +2,7 @@
 //!
 //! `test_rows` tests the rows kind by kind, before any memory is taken, and finds the first row that is not
 //! fit. `build_problem` makes of fit rows the one problem that `specs/Rows.antt` names, or finds no memory.
-//! Other calls make a plan and prices of such arrays, and write a plan and prices into them. A caller's wave is
+//! Other calls make a plan and prices of a caller's arrays, and write a plan and prices into them. A wave is
 //! narrow or wide, as its barred pairs number splits in 16 bits or in 32; either gives the same `WaveRows`. The
 //! crate stands on `wave_problem` and `price_certificate`; `mrjob_c` offers it to callers in C.
 #![tactic(auto)]
