@@ -77,6 +77,8 @@ for program in "$@"; do
     expect "a problem in place of a job" "$(given run < "$text")" 2 "line 1: fault 7" nothing
     expect "an option for running" "$(given run --prices < "$text")" 64 nothing words
     expect "a job that is stuck" "$(given run < examples/run_stuck.txt)" 1 "$(cat examples/run_stuck.out)" nothing
+    expect "a job in 64 MB of address space" "$(ulimit -v 64000; given run < examples/run_words.txt)" 0 \
+        "$(cat examples/run_words.out)" nothing
     expect "a job that is done" "$(given run < examples/run_words.txt)" 0 "$(cat examples/run_words.out)" nothing
     expect "more starts than the most attempts" \
         "$(scripts/make_texts.py full 1 | given play)" 5 nothing "mrjob: history full"

@@ -1,25 +1,18 @@
-ghost use Rattle.std.specs.Prelude.{◌≡◌, ◌≤◌, ◌<◌, ◌^◌, ◌++◌, ◌∷◌, [], length, IfOk, IfSome, Some};
-ghost use Rattle.std.specs.Prelude.{slice_get, vec_capacity, vec_len};
-ghost use Rattle.compact_lists.specs.Counts.{counts_from, counts_of};
-ghost use Rattle.compact_lists.specs.Entries.{GoesOn};
+ghost use Rattle.std.specs.Prelude.{◌≡◌, ◌≤◌, ◌<◌, ◌^◌, ◌↔◌, ◌++◌, ◌∷◌, [], length, take, IfOk, IfSome, IsTrue};
+ghost use Rattle.std.specs.Prelude.{◌-◌, slice_get, slice_index_or, vec_capacity, vec_len};
+ghost use Rattle.compact_lists.specs.Counts.{counts_from, GoesOnByOne};
 
-use crate::entries::add;
+use crate::row_table::RowTable;
 use std::alloc::{AllocError, Global};
 use std::marker::Model;
 
-// The counts of a sweep: by how much each is above that of a base, which is named by its place, from 0.
-#[derive(Clone, Copy, Debug)]
-pub(crate) struct Row {
-    base: u32,
-    rises: [u16; 256],
-}
-
-/// A list of the counts of sweeps, with all the room that it will have.
+/// A list of the counts of sweeps, one count for each worker, with all the room that it will have.
 #[derive(Drop)]
 pub struct CountList {
-    rows: Vec<Row>,
-    bases: Vec<[u64; 256]>,
-    room: u32,
+    // For each sweep: its base, by the base's number from 0, and by how much each count is above the base's.
+    bases_of: Vec<u32>,
+    rises: RowTable<u16>,
+    bases: RowTable<u64>,
 }
 
 impl Model for CountList {
@@ -34,14 +27,67 @@ impl Model for CountList {
     ghost invariant = { IsCountList };
 }
 
-impl CountList {
-    /// The empty list, with room for the counts of so many sweeps.
-    pub fn with_room(alloc: Global, room: u32) -> Result<CountList, AllocError>
-        ensures { IfOk result (λ list. list ≡ record { items = []; room = room }) }
+/// The counts of a sweep, by worker number.
+#[derive(Drop)]
+pub struct Counts<'a> {
+    base: &'a [u64],
+    rises: &'a [u16],
+}
+
+impl<'a> Model for Counts<'a> {
+    ghost use Rattle.std.specs.Prelude.{List, ℕ, ◌≡◌, length};
+    ghost use Rattle.compact_lists.specs.Counts.{counts_from};
+
+    ghost Value = { List ℕ };
+
+    ghost view = { λ c. counts_from c.base.now c.rises.now };
+
+    ghost invariant = { λ c. length c.base.now ≡ length c.rises.now };
+}
+
+impl<'a> Counts<'a> {
+    /// The count of a worker, by number; 0 past the last one.
+    pub fn of(&self, worker: usize) -> u64
+        ensures { result ≡ slice_index_or self.now worker 0 }
     {
-        let rows = Vec::with_capacity(alloc, room as usize)?;
-        let bases = Vec::with_capacity(alloc, room as usize)?;
-        Ok(CountList { rows, bases, room })
+        if worker < self.base.len() {
+            // (no sum wraps in a row that `push` made)
+            self.base[worker].wrapping_add(self.rises[worker] as u64)
+        } else {
+            0
+        }
+    }
+
+    /// Whether the counts are the same, of as many workers.
+    pub fn is_same(&self, other: &Counts<'_>) -> bool
+        ensures { IsTrue result ↔ (self.now ≡ other.now) }
+    {
+        if self.base.len() != other.base.len() {
+            return false;
+        }
+        for worker in 0..self.base.len() {
+            if self.of(worker) != other.of(worker) {
+                return false;
+            }
+        }
+        true
+    }
+}
+
+impl CountList {
+    /// The empty list, with room for so many sweeps of so many workers.
+    pub fn with_room(alloc: Global, room: u32, workers: usize) -> Result<CountList, AllocError>
+        requires { workers ≤ 256 }
+        ensures { IfOk result (λ list. list ≡ record { items = []; room = room; workers = workers }) }
+    {
+        let bases_of = Vec::with_capacity(alloc, room as usize)?;
+        let rises = RowTable::with_room(alloc, room, workers)?;
+        let bases = RowTable::with_room(alloc, room, workers)?;
+        Ok(CountList {
+            bases_of,
+            rises,
+            bases,
+        })
     }
 
     /// How many sweeps there are.
@@ -49,80 +95,87 @@ impl CountList {
         ensures count { result ≡ length self.now.items }
         ensures most { result ≤ self.now.room }
     {
-        self.rows.len()
+        self.bases_of.len()
     }
 
-    /// The counts of the sweep at an index, from 0.
-    pub fn at(&self, index: usize) -> [u64; 256]
-        requires { index < length self.now.items }
-        ensures { slice_get self.now.items index ≡ Some result }
+    /// Of how many workers each sweep has a count.
+    pub fn workers(&self) -> usize
+        ensures count { result ≡ self.now.workers }
+        ensures most { result ≤ 256 }
     {
-        counts_of(&self.bases, &self.rows[index])
+        self.bases.width()
     }
 
-    /// The counts of the sweep at an index, if there is one.
-    pub fn get(&self, index: usize) -> Option<[u64; 256]>
+    /// The counts of the sweep at an index, from 0, if there is one.
+    pub fn get(&self, index: usize) -> Option<Counts<'_>>
         ensures { result ≡ slice_get self.now.items index }
     {
-        if index < self.len() {
-            Some(self.at(index))
-        } else {
-            None
+        if index >= self.bases_of.len() {
+            return None;
         }
+        Some(Counts {
+            base: self.bases.row(self.bases_of[index] as usize),
+            rises: self.rises.row(index),
+        })
     }
 
     /// Adds the counts of a sweep, for which there is room.
-    pub fn push(&mut self, counts: &[u64; 256])
-        requires { length self.old.items < self.old.room }
+    pub fn push(&mut self, counts: &[u64])
+        requires room { length self.old.items < self.old.room }
+        requires workers { length counts.now ≡ self.old.workers }
         ensures items { self.new.items ≡ self.old.items ++ counts.now ∷ [] }
         ensures room { self.new.room ≡ self.old.room }
+        ensures workers { self.new.workers ≡ self.old.workers }
     {
-        let row = row_of(&mut self.bases, counts);
-        self.rows.push_reserved(row);
+        let rises = rises_over(&mut self.bases, counts);
+        self.rises.push(&rises[..counts.len()]);
+        self.bases_of.push_reserved(self.bases.len() as u32 - 1);
     }
 }
 
-// The row of these counts, over the last base, or over themselves as a base more.
-fn row_of(bases: &mut Vec<[u64; 256]>, counts: &[u64; 256]) -> Row
-    requires room { vec_len bases.old < vec_capacity bases.old }
-    requires few { vec_len bases.old < 2 ^ 32 }
-    ensures counts { counts_of bases.new.items result ≡ counts.now }
-    ensures within { result.base < length bases.new.items }
-    ensures bases { GoesOn bases.old.items bases.new.items }
-    ensures room { vec_capacity bases.new ≡ vec_capacity bases.old }
+// By how much each count is above that of the last base. The counts are a base more where 16 bits do not tell it.
+fn rises_over(bases: &mut RowTable<u64>, counts: &[u64]) -> [u16; 256]
+    requires room { length bases.old.rows < bases.old.room }
+    requires width { length counts.now ≡ bases.old.width }
+    requires few { length counts.now ≤ 256 }
+    ensures counts { counts_from (slice_index_or bases.new.rows (length bases.new.rows - 1) [])
+        (take (length counts.now) result) ≡ counts.now }
+    ensures some { 0 < length bases.new.rows }
+    ensures bases { GoesOnByOne bases.old.rows bases.new.rows }
+    ensures room { bases.new.room ≡ bases.old.room }
+    ensures width { bases.new.width ≡ bases.old.width }
 {
-    if let Some(row) = row_over_last(bases, counts) {
-        return row;
+    if let Some(rises) = rises_above_last(bases, counts) {
+        return rises;
     }
-    Row {
-        base: add(bases, *counts),
-        rises: [0; 256],
-    }
+    bases.push(counts);
+    [0; 256]
 }
 
-// The row over the last base, if there is one and no count lies too far from it.
-fn row_over_last(bases: &[[u64; 256]], counts: &[u64; 256]) -> Option<Row>
-    requires { length bases.now < 2 ^ 32 }
-    ensures counts { IfSome result (λ row. counts_of bases.now row ≡ counts.now) }
-    ensures within { IfSome result (λ row. row.base < length bases.now) }
+// By how much each count is above that of the last base, if there is one and 16 bits tell it of all.
+fn rises_above_last(bases: &RowTable<u64>, counts: &[u64]) -> Option<[u16; 256]>
+    requires width { length counts.now ≡ bases.now.width }
+    requires few { length counts.now ≤ 256 }
+    ensures some { IfSome result (λ rises. 0 < length bases.now.rows) }
+    ensures counts { IfSome result (λ rises.
+        counts_from (slice_index_or bases.now.rows (length bases.now.rows - 1) []) (take (length counts.now) rises)
+        ≡ counts.now) }
 {
     let count = bases.len();
     if count == 0 {
         return None;
     }
-    let rises = rises_above(&bases[count - 1], counts)?;
-    Some(Row {
-        base: count as u32 - 1,
-        rises,
-    })
+    rises_above(bases.row(count - 1), counts)
 }
 
 // By how much each count is above that of the base, if 16 bits tell it of all.
-fn rises_above(base: &[u64; 256], counts: &[u64; 256]) -> Option<[u16; 256]>
-    ensures { IfSome result (λ rises. counts_from base.now rises ≡ counts.now) }
+fn rises_above(base: &[u64], counts: &[u64]) -> Option<[u16; 256]>
+    requires same { length base.now ≡ length counts.now }
+    requires few { length counts.now ≤ 256 }
+    ensures { IfSome result (λ rises. counts_from base.now (take (length counts.now) rises) ≡ counts.now) }
 {
     let mut rises = [0; 256];
-    for i in 0..256 {
+    for i in 0..counts.len() {
         let low = base[i];
         let count = counts[i];
         if count < low || count - low >= 65_536 {
@@ -131,23 +184,4 @@ fn rises_above(base: &[u64; 256], counts: &[u64; 256]) -> Option<[u16; 256]>
         rises[i] = (count - low) as u16;
     }
     Some(rises)
-}
-
-// The counts of a row.
-fn counts_of(bases: &[[u64; 256]], row: &Row) -> [u64; 256]
-    requires { row.now.base < length bases.now }
-    ensures { result ≡ counts_of bases.now row.now }
-{
-    counts_from(&bases[row.base as usize], &row.rises)
-}
-
-// The counts of a sweep: each count of a base with its rise. (No sum wraps in a row that `row_of` made.)
-fn counts_from(base: &[u64; 256], rises: &[u16; 256]) -> [u64; 256]
-    ensures { result ≡ counts_from base.now rises.now }
-{
-    let mut counts = [0; 256];
-    for i in 0..256 {
-        counts[i] = base[i].wrapping_add(rises[i] as u64);
-    }
-    counts
 }

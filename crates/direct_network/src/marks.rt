@@ -42,7 +42,7 @@ impl Marks {
         self.mark_live(problem, problem.holders(split), mark);
     }
 
-    // Marks where those of the holders stand that live.
+    // Marks where the live holders stand.
     fn mark_live(&mut self, problem: &Problem, holders: &[WorkerNo], mark: u32)
         requires holders { All (λ h. h < length problem.now.workers) holders.now }
         requires before { AreMarksTo problem.now mark self.old }

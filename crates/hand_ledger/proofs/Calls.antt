@@ -1,6 +1,6 @@
 -- The calls that lists of entries, counts and starts stand for.
 use Rattle.std.proofs.Common.{◌≡◌, ℕ, zero, suc, ◌+◌, ◌-◌, ◌≤◌, List, [], ◌∷◌, ◌++◌, length, take, drop}
-use Rattle.std.proofs.Common.{get_or, ◌<◌, ◌&&◌, nat_lt, nat_le, Bool, true, false, Some}
+use Rattle.std.proofs.Common.{get_or, ◌<◌, ◌&&◌, nat_lt, nat_le, Bool, true, false, None, Option, Some}
 use Rattle.std.proofs.Common.{refl, sym, ap, subst, ◌∙◌, arith, sum_by}
 use Rattle.std.specs.Prelude.{slice_get}
 use Rattle.std.specs.Option.{option_to_list}
@@ -155,12 +155,21 @@ pub of_none : (P : List Kept → Type 0) (es : List Entry) (cs : List (List ℕ)
 of_none P es cs ss are none holds =
     subst P (ap (λ (l : List Entry). calls_of l cs ss) (sym none) ∙ are) holds
 
+same_first : {X : Type 0} (x y : X) → x ∷ [] ≡ y ∷ [] → x ≡ y
+same_first x y same = ap (λ xs. get_or xs 0 x) same
+
 -- the element at an index, as a list of at most one
 pub one_at : {X : Type 0} (xs : List X) (i : ℕ) → option_to_list (slice_get xs i) ≡ take 1 (drop i xs)
 one_at [] zero = refl
 one_at [] (suc i) = refl
 one_at (x ∷ xs) zero = refl
 one_at (x ∷ xs) (suc i) = one_at xs i
+
+pub one_same : {X : Type 0} (a b : Option X) → option_to_list a ≡ option_to_list b → a ≡ b
+one_same None None same = refl
+one_same None (Some y) same = absurd cc
+one_same (Some x) None same = absurd cc
+one_same (Some x) (Some y) same = ap Some (same_first x y same)
 
 -- a list without entries, and one with a last entry
 pub no_entries : (es : List Entry) → length es ≡ 0 → es ≡ []
@@ -186,12 +195,19 @@ pub calls_step : (before : List Kept) (es : List Entry) (i : ℕ) (e : Entry) (c
 calls_step before es i e cs ss lt is = grind (arith, common_steps, append_assoc, take_more, calls_more)
 
 -- a hand by its parts
-abbrev pub hand_from : List Kept → Limits → Bool → Bool → HandValue
-hand_from calls room strange full = record { calls = calls; room = room; strange = strange; full = full }
+abbrev pub hand_from : List Kept → ℕ → Limits → Bool → Bool → HandValue
+hand_from calls workers room strange full = record {
+  calls = calls;
+  workers = workers;
+  room = room;
+  strange = strange;
+  full = full;
+}
 
 -- the room of a hand, by its fields
 pub room_is : {es : List Entry} {cs : List (List ℕ)} {ss : List Start} {room : Limits} {hand : HandValue}
-    {strange full : Bool} (c s : ℕ) → hand_from (calls_of es cs ss) room strange full ≡ hand →
+    {workers : ℕ} {strange full : Bool} (c s : ℕ) →
+    hand_from (calls_of es cs ss) workers room strange full ≡ hand →
     AreKept es cs ss room →
     (nat_lt (length es) room.events && nat_le (length cs + c) room.sweeps
     && nat_le (length ss + s) room.attempts)

@@ -1,6 +1,6 @@
 -- What a hand keeps of the calls of its thread, and what is kept of all hands.
 use Rattle.std.specs.Prelude.{ℕ, ◌+◌, ◌&&◌, ◌||◌, nat_le, nat_lt, Bool, true, false, List, [], ◌∷◌, ◌++◌}
-use Rattle.std.specs.Prelude.{length, Option, Some, None}
+use Rattle.std.specs.Prelude.{length, map, take, Option, Some, None}
 use Rattle.std.specs.List.{sum_by}
 use Rattle.master_state.specs.declared.answers.Why.{Why}
 use Rattle.master_state.specs.declared.answers.Why.TheVariants.{HistoryFull, StrangeHand}
@@ -9,8 +9,8 @@ use Rattle.master_state.specs.declared.events.Event.TheVariants.{Wave, Sweep}
 use Rattle.master_state.specs.declared.states.Limits.{Limits}
 use Rattle.master_state.specs.declared.states.Start.{Start}
 
--- an accepted call: its place in the history and its event, with the counts of a sweep or the starts of a
--- wave
+-- an accepted call: its place in the history and its event, with a sweep's count of each worker or a wave's
+-- starts
 pub record Kept : Type 0 where
   pub place : ℕ
   pub event : Event
@@ -23,13 +23,24 @@ kept place event counts starts = record { place = place; event = event; counts =
 -- a hand as its thread sees it
 pub record HandValue : Type 0 where
   pub calls : List Kept  -- the accepted ones, the first one first
+  pub workers : ℕ  -- of how many workers it keeps the counts of a sweep
   pub room : Limits
   pub strange : Bool  -- a call was answered that the hand is strange
   pub full : Bool  -- a call that the hand had room for was answered that no place is left
 
 -- a hand without a call
-abbrev pub new_hand : Limits → HandValue
-new_hand room = record { calls = []; room = room; strange = false; full = false }
+abbrev pub new_hand : ℕ → Limits → HandValue
+new_hand workers room = record {
+  calls = [];
+  workers = workers;
+  room = room;
+  strange = false;
+  full = false;
+}
+
+-- the counts of the workers that a hand keeps, of those that are handed in
+abbrev pub own_counts : HandValue → List (List ℕ) → List (List ℕ)
+own_counts hand counts = map (take hand.workers) counts
 
 -- all hands of a ledger: how many calls they keep together, and how many hands were made
 pub record HandsValue : Type 0 where

@@ -1,7 +1,7 @@
-ghost use Rattle.std.specs.Prelude.{◌≡◌, ◌+◌, ◌≤◌, ◌↔◌, List, ◌++◌, true, length, vec_len, vec_capacity};
+ghost use Rattle.std.specs.Prelude.{◌≡◌, ◌+◌, ◌≤◌, ◌↔◌, List, ◌++◌, true, length, map, take, vec_capacity};
 ghost use Rattle.std.specs.Prelude.{IsTrue, IfOk, OnOk, OnErr};
 ghost use Rattle.hand_ledger.specs.Hands.{Kept, counts_in, has_room, kept, last_event, last_place, new_hand};
-ghost use Rattle.hand_ledger.specs.Hands.{noted, starts_in, with_call, HandValue};
+ghost use Rattle.hand_ledger.specs.Hands.{noted, own_counts, starts_in, with_call, HandValue};
 ghost use Rattle.hand_ledger.specs.Inside.{IsPlace, calls_of, AreKept};
 ghost use Rattle.hand_ledger.specs.Marks.{Marks};
 ghost use Rattle.hand_ledger.specs.declared.marks.TheConstants.{PLACES};
@@ -11,7 +11,7 @@ use crate::entries::Entries;
 use crate::logs::Log;
 use crate::making::Hands;
 use crate::marks::{Found, mark_all};
-use compact_lists::EventList;
+use compact_lists::{CountList, EventList, add_all};
 use master_state::{Event, Limits, Start, Why};
 use std::alloc::{AllocError, Global};
 use std::marker::Model;
@@ -22,7 +22,7 @@ use std::sync::ledger::{Ledger, Share};
 pub struct Hand<L: Ledger> {
     pub(crate) share: Share<L>,
     pub(crate) entries: Entries,
-    counts: Vec<[u64; 256]>,
+    counts: CountList,
     starts: Vec<Start>,
     room: Limits,
     strange: bool,
@@ -49,6 +49,7 @@ impl<L: Ledger> Model for Hand<L> {
 
     ghost view = { λ h. record {
       calls = calls_of h.entries.items h.counts.items h.starts.items;
+      workers = h.counts.workers;
       room = h.room;
       strange = h.strange;
       full = h.full;
@@ -56,7 +57,7 @@ impl<L: Ledger> Model for Hand<L> {
 
     ghost invariant = { λ h. (h.share.parts ≡ 1) × (h.share.amount ≡ length h.entries.items)
         × AreKept h.entries.items h.counts.items h.starts.items h.room
-        × (h.room.events ≤ h.entries.room) × (h.room.sweeps ≤ vec_capacity h.counts)
+        × (h.room.events ≤ h.entries.room) × (h.room.sweeps ≤ h.counts.room)
         × (h.room.attempts ≤ vec_capacity h.starts) };
 }
 
@@ -65,17 +66,19 @@ impl<L: Ledger> Hand<L> {
     pub(crate) fn new(
         alloc: Global,
         rest: &mut Share<L>,
+        workers: usize,
         room: Limits,
     ) -> Result<Hand<L>, AllocError>
+        requires few { workers ≤ 256 }
         requires part { 1 ≤ rest.old.parts }
         requires amount { rest.old.amount ≡ 0 }
-        ensures value { IfOk result (λ h. h ≡ new_hand room) }
+        ensures value { IfOk result (λ h. h ≡ new_hand workers room) }
         ensures parts { OnOk result (rest.new.parts + 1 ≡ rest.old.parts) }
         ensures amount { rest.new.amount ≡ 0 }
         ensures err { OnErr result (rest.new ≡ rest.old) }
     {
         let entries = Entries::with_room(alloc, room.events)?;
-        let counts = Vec::with_capacity(alloc, room.sweeps as usize)?;
+        let counts = CountList::with_room(alloc, room.sweeps, workers)?;
         let starts = Vec::with_capacity(alloc, room.attempts as usize)?;
         Ok(Hand {
             share: rest.split_off(1, 0),
@@ -162,7 +165,8 @@ impl<L: Ledger> Hand<L> {
         }
     }
 
-    /// Keeps an accepted call, one more of all hands: a sweep with its counts, a wave with its starts.
+    /// Keeps an accepted call, one more of all hands: a sweep with the counts of the workers, a wave with its
+    /// starts.
     pub fn keep(
         &mut self,
         hands: &mut Hands<L>,
@@ -175,13 +179,14 @@ impl<L: Ledger> Hand<L> {
         requires counts { length counts.now ≡ counts_in event.now }
         requires starts { length starts.now ≡ starts_in event.now }
         requires room { has_room self.old (counts_in event.now) (starts_in event.now) ≡ true }
-        ensures value { self.new ≡ with_call self.old (kept place event.now counts.now starts.now) }
+        ensures value { self.new ≡ with_call self.old (kept place event.now (own_counts self.old counts.now)
+            starts.now) }
         ensures total { hands.new.total ≡ hands.old.total + 1 }
         ensures made { hands.new.made ≡ hands.old.made }
     {
         hands.book.add(&mut self.share, 1);
         self.entries.push(place, event);
-        add_all(&mut self.counts, counts);
+        add_counts(&mut self.counts, counts);
         add_all(&mut self.starts, starts);
     }
 }
@@ -205,13 +210,15 @@ impl<L: Ledger> Hand<L> {
     }
 }
 
-// Appends elements to a list that has room for them.
-fn add_all<T: Copy>(list: &mut Vec<T>, more: &[T])
-    requires { vec_len list.old + length more.now ≤ vec_capacity list.old }
-    ensures items { list.new.items ≡ list.old.items ++ more.now }
-    ensures capacity { vec_capacity list.new ≡ vec_capacity list.old }
+// Adds the counts of these sweeps, of as many workers as the list has counts of.
+fn add_counts(list: &mut CountList, sweeps: &[[u64; 256]])
+    requires { length list.old.items + length sweeps.now ≤ list.old.room }
+    ensures items { list.new.items ≡ list.old.items ++ map (take list.old.workers) sweeps.now }
+    ensures room { list.new.room ≡ list.old.room }
+    ensures workers { list.new.workers ≡ list.old.workers }
 {
-    for item in more {
-        list.push_reserved(*item);
+    let workers = list.workers();
+    for counts in sweeps {
+        list.push(&counts[..workers]);
     }
 }

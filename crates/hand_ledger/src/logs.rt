@@ -1,10 +1,9 @@
 ghost use Rattle.std.specs.Prelude.{◌≡◌, ◌<◌, ◌≤◌, ◌^◌, ◌↔◌, ◌∷◌, [], IsTrue, take, drop};
-ghost use Rattle.std.specs.Option.{option_to_list};
 ghost use Rattle.hand_ledger.specs.Hands.{kept, counts_in, starts_in};
 ghost use Rattle.hand_ledger.specs.Settling.{call_at, event_at, counts_at, starts_at, LogValue};
 
 use crate::entries::Entry;
-use compact_lists::{CountList, EventList};
+use compact_lists::{CountList, Counts, EventList};
 use master_state::{Event, Start};
 use std::marker::Model;
 
@@ -49,11 +48,18 @@ impl<'a> Log<'a> {
         event_at(self.history, place)
     }
 
-    // Whether the call of an entry, with these counts and starts, is the one that stands at its place.
-    pub(crate) fn has(&self, entry: &Entry, counts: &[[u64; 256]], starts: &[Start]) -> bool
+    // Whether the call of an entry, whose counts begin at an index of a list, with these starts, is the one that
+    // stands at its place.
+    pub(crate) fn has(
+        &self,
+        entry: &Entry,
+        counts: &CountList,
+        from: usize,
+        starts: &[Start],
+    ) -> bool
         ensures { IsTrue result
-            ↔ (call_at self.now entry.now.place ≡ kept entry.now.place entry.now.event counts.now starts.now
-            ∷ []) }
+            ↔ (call_at self.now entry.now.place ≡ kept entry.now.place entry.now.event
+            (take (counts_in entry.now.event) (drop from counts.now.items)) starts.now ∷ []) }
     {
         let Some(event) = self.event_at(entry.place) else {
             return false;
@@ -61,29 +67,23 @@ impl<'a> Log<'a> {
         if !are_same(&event, &entry.event) {
             return false;
         }
-        if !self.has_counts(event, counts) {
+        if !self.has_counts(event, counts, from) {
             return false;
         }
         self.starts_at(event) == starts
     }
 
-    // Whether these are the counts of an event. A sweep has counts, and any other event has none.
-    fn has_counts(&self, event: Event, counts: &[[u64; 256]]) -> bool
-        ensures { IsTrue result ↔ (counts_at self.now event ≡ counts.now) }
-    {
-        match self.counts_at(event) {
-            Some(found) => std::slice::from_ref(&found) == counts,
-            None => counts.is_empty(),
-        }
-    }
-
-    // The counts of a sweep.
-    fn counts_at(&self, event: Event) -> Option<[u64; 256]>
-        ensures { option_to_list result ≡ counts_at self.now event }
+    // Whether the counts of an event are those at an index of a list. An event that is no sweep has none.
+    fn has_counts(&self, event: Event, counts: &CountList, from: usize) -> bool
+        ensures { IsTrue result
+            ↔ (counts_at self.now event ≡ take (counts_in event) (drop from counts.now.items)) }
     {
         match event {
-            Event::Sweep(place) => self.sweeps.get((place as usize).saturating_sub(1)),
-            _ => None,
+            Event::Sweep(place) => {
+                let found = self.sweeps.get((place as usize).saturating_sub(1));
+                are_same_counts(&found, &counts.get(from))
+            }
+            _ => true,
         }
     }
 
@@ -110,6 +110,17 @@ fn event_at(history: &EventList, place: u32) -> Option<Event>
     history.get(place as usize - 1)
 }
 
+// Whether the counts of two sweeps are the same, or there are none of either.
+fn are_same_counts(counts: &Option<Counts<'_>>, others: &Option<Counts<'_>>) -> bool
+    ensures { IsTrue result ↔ (counts.now ≡ others.now) }
+{
+    match (counts, others) {
+        (Some(counts), Some(others)) => counts.is_same(others),
+        (None, None) => true,
+        _ => false,
+    }
+}
+
 // Whether two events are one and the same.
 fn are_same(event: &Event, other: &Event) -> bool
     ensures { IsTrue result ↔ (event.now ≡ other.now) }
@@ -119,7 +130,8 @@ fn are_same(event: &Event, other: &Event) -> bool
 
 // How many counts stand for an event.
 pub(crate) fn counts_in(event: Event) -> usize
-    ensures { result ≡ counts_in event }
+    ensures value { result ≡ counts_in event }
+    ensures few { result ≤ 1 }
 {
     match event {
         Event::Sweep(_) => 1,

@@ -58,9 +58,15 @@ impl<L: Ledger> Hands<L> {
         self.made
     }
 
-    /// A hand without a call, with all the room that it will have.
-    pub fn hand(&mut self, alloc: Global, room: Limits) -> Result<Hand<L>, HandError>
-        ensures value { IfOk result (λ h. h ≡ new_hand room) }
+    /// A hand without a call, with all the room that it will have, for a master of so many workers.
+    pub fn hand(
+        &mut self,
+        alloc: Global,
+        workers: usize,
+        room: Limits,
+    ) -> Result<Hand<L>, HandError>
+        requires { workers ≤ 256 }
+        ensures value { IfOk result (λ h. h ≡ new_hand workers room) }
         ensures made { OnOk result (self.new.made ≡ self.old.made + 1) }
         ensures total { self.new.total ≡ self.old.total }
         ensures err { OnErr result (self.new ≡ self.old) }
@@ -69,7 +75,7 @@ impl<L: Ledger> Hands<L> {
         if self.made >= 4095 {
             return Err(HandError::Limit);
         }
-        let Ok(hand) = Hand::new(alloc, &mut self.rest, room) else {
+        let Ok(hand) = Hand::new(alloc, &mut self.rest, workers, room) else {
             return Err(HandError::Memory);
         };
         self.made += 1;

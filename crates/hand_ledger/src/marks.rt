@@ -7,6 +7,7 @@ ghost use Rattle.hand_ledger.specs.declared.marks.TheConstants.{PLACES};
 
 use crate::entries::Entries;
 use crate::logs::{Log, counts_in, part, starts_in};
+use compact_lists::CountList;
 use master_state::Start;
 
 // Every place that a history may have, with the one before and the one after.
@@ -38,16 +39,16 @@ pub(crate) fn mark_all(
     found: &mut [Found],
     log: &Log<'_>,
     entries: &Entries,
-    counts: &[[u64; 256]],
+    counts: &CountList,
     starts: &[Start],
 )
     requires size { length found.old ≡ PLACES }
     requires places { All (λ entry. IsPlace entry.place) entries.now.items }
-    requires counts { counts_taken entries.now.items ≤ length counts.now }
+    requires counts { counts_taken entries.now.items ≤ length counts.now.items }
     requires starts { starts_taken entries.now.items ≤ length starts.now }
     ensures size { length found.new ≡ PLACES }
     ensures marks { (before : List Kept) → Marks log.now before found.old
-        → Marks log.now (before ++ calls_of entries.now.items counts.now starts.now) found.new }
+        → Marks log.now (before ++ calls_of entries.now.items counts.now.items starts.now) found.new }
 {
     let mut counts_done = 0;
     let mut starts_done = 0;
@@ -55,11 +56,8 @@ pub(crate) fn mark_all(
         let entry = entries.at(index);
         let new_counts = counts_in(entry.event);
         let new_starts = starts_in(entry.event);
-        let is_right = log.has(
-            &entry,
-            part(counts, counts_done, new_counts),
-            part(starts, starts_done, new_starts),
-        );
+        let new_part = part(starts, starts_done, new_starts);
+        let is_right = log.has(&entry, counts, counts_done, new_part);
         mark(found, entry.place, is_right);
         counts_done += new_counts;
         starts_done += new_starts;

@@ -75,7 +75,10 @@ adds_none s new events starts =
 
 adds_after : (s : State) (call : Call) → Adds s (after s call) (started_by call)
 adds_after s (Sweep counts) =
-    let heard : State = record s { workers = swept s.workers counts; sweeps = s.sweeps ++ counts ∷ [] } in
+    let heard : State = record s {
+      workers = swept s.workers counts;
+      sweeps = s.sweeps ++ take (length s.workers.each) counts ∷ [];
+    } in
     let dead = filter (is_silent (swept s.workers counts))
     (range_with_len 0 (length (swept s.workers counts).each)) in
     adds_none s (after s (Sweep counts)) (ap (λ (n : ℕ). n + 1) (died_events heard dead))

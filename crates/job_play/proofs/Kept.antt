@@ -1,5 +1,5 @@
 -- What no command changes, and which runs stay in the table.
-use Rattle.std.proofs.Common.{◌≡◌, ◌≢◌, inl, inr, ℕ, List, [], ◌∷◌, ◌++◌, refl, sym, ap, ◌∙◌, subst, All}
+use Rattle.std.proofs.Common.{◌≡◌, ◌≢◌, inl, inr, ℕ, List, [], ◌∷◌, ◌++◌, refl, sym, ap, ◌∙◌, subst, All, take}
 use Rattle.std.specs.Prelude.{fold, filter, length}
 use Rattle.std.specs.List.{range_with_len}
 use Rattle.std.proofs.lemmas.List.Elements.{All-push}
@@ -43,7 +43,10 @@ have_after : (setup : Setup) (table : List Runs) (s : State) (call : Call) → c
     Have setup table s.starts → Have setup table (after s call).starts
 have_after setup table s (Sweep counts) other have =
     have_died setup table
-    (record s { workers = swept s.workers counts; sweeps = s.sweeps ++ counts ∷ [] })
+    (record s {
+      workers = swept s.workers counts;
+      sweeps = s.sweeps ++ take (length s.workers.each) counts ∷ [];
+    })
     (filter (is_silent (swept s.workers counts)) (range_with_len 0 (length (swept s.workers counts).each)))
     have
 have_after setup table s ReduceStart other have = absurd (other refl)

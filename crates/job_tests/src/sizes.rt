@@ -90,6 +90,6 @@ fn a_worker_beats_while_it_maps(rt: HostRuntime) {
     let (2, Some(before), Some(after)) = (sweeps.len(), sweeps.get(0), sweeps.get(1)) else {
         panic!(rt; "not two sweeps");
     };
-    let beats = after[0].saturating_sub(before[0]);
+    let beats = after.of(0).saturating_sub(before.of(0));
     assert!(rt; beats >= 1_500_000 / STRIDE, "{beats} beats");
 }

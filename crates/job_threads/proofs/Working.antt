@@ -1,5 +1,5 @@
 -- What workers have done of the orders of their lanes.
-use Rattle.std.proofs.Common.{List, [], ◌∷◌, ◌++◌, ◌≡◌, refl, subst, sym}
+use Rattle.std.proofs.Common.{List, [], ◌∷◌, ◌++◌, ◌≡◌, length, refl, subst, sym}
 use Rattle.lane_queue.specs.Lanes.{PassValue}
 use Rattle.lane_queue.specs.declared.order.Order.{Order}
 use Rattle.master_state.specs.States.{Setup}
@@ -21,4 +21,4 @@ pub has_worked_more : (setup : Setup) (old new : PassValue) (given : Order) (bef
     → HasWorked setup old before → HasWorked setup new after
 has_worked_more setup old new given before after taken did has =
     subst (λ pass. HasWorked setup pass after) (sym taken)
-    (performs_more setup old.takes given (new_hand worker_room) before after has did)
+    (performs_more setup old.takes given (new_hand (length setup.cluster.slots) worker_room) before after has did)

@@ -342,7 +342,7 @@ fn hand_of<L: Ledger + OfJob, R: Wait>(
     shared: &SharedMaster<L>,
     room: Limits,
 ) -> Result<Hand<L>, RunError>
-    ensures hand { IfOk result (λ hand. hand ≡ new_hand room) }
+    ensures hand { IfOk result (λ hand. hand ≡ new_hand (length L.setup.cluster.slots) room) }
     ensures err { IfErr result (λ e. (e ≡ RunError.Memory) ⊎ (e ≡ RunError.Torn 0)) }
 {
     match shared.hand(rt, alloc, room) {

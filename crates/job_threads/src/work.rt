@@ -1,4 +1,4 @@
-ghost use Rattle.std.specs.Prelude.{◌≡◌, ◌≢◌, ◌<◌, ◌≤◌, [], Err, Some, IfErr, IfSome, None, true};
+ghost use Rattle.std.specs.Prelude.{◌≡◌, ◌≢◌, ◌<◌, ◌≤◌, [], length, Err, Some, IfErr, IfSome, None, true};
 ghost use Rattle.std.specs.Arc.{arc_value};
 ghost use Rattle.beat_board.specs.Values.{SeatValue};
 ghost use Rattle.std.specs.Option.{is_some};
@@ -39,12 +39,12 @@ const NAP_MICROS: u64 = 50;
 
 // What the thread of a worker is given.
 #[derive(Drop)]
-pub(crate) struct Worker<'a, L: Ledger + Aim> {
+pub(crate) struct Worker<'a, L: Ledger + OfJob + Aim> {
     pub(crate) number: WorkerNo,
     pub(crate) hand: Hand<L>,
     pub(crate) orders: LaneEnd<'a, L>,
     pub(crate) pulse: Pulse<'a, L>,
-    ghost hand_is: { hand ≡ new_hand worker_room },
+    ghost hand_is: { hand ≡ new_hand (length L.setup.cluster.slots) worker_room },
     ghost orders_are: { orders.takes ≡ [] },
 }
 

@@ -24,12 +24,13 @@ pub is_false : (b : Bool) → true ≡ not b → b ≡ false
 is_false true e = cc
 is_false false e = refl
 
--- what no call changes: the setup, and the room of each list
+-- what no call changes: the setup, the room of each list, and of how many workers a sweep has counts
 pub record Rooms : Type 0 where
   pub setup : Setup
   pub events : ℕ
   pub attempts : ℕ
   pub sweeps : ℕ
+  pub workers : ℕ
   pub results : ℕ
 
 abbrev pub rooms_of : Inside → Rooms
@@ -38,6 +39,7 @@ rooms_of m = record {
   events = m.history.room;
   attempts = vec_capacity m.starts;
   sweeps = m.sweeps.room;
+  workers = m.sweeps.workers;
   results = vec_capacity m.results;
 }
 
@@ -45,10 +47,11 @@ pub room_after : (old new : Inside) → HasRoom old → rooms_of new ≡ rooms_o
 room_after old new was same =
     let Fit : Rooms → Type 0 = λ rooms.
     (rooms.setup.limits.events ≤ rooms.events) × (rooms.setup.limits.attempts ≤ rooms.attempts)
-    × (rooms.setup.limits.sweeps ≤ rooms.sweeps) × (rooms.setup.cluster.parts ≤ rooms.results) in
+    × (rooms.setup.limits.sweeps ≤ rooms.sweeps) × (rooms.workers ≡ length rooms.setup.cluster.slots)
+    × (rooms.setup.cluster.parts ≤ rooms.results) in
     let fit : Fit (rooms_of new) =
-    subst Fit (sym same) (was.events, was.attempts, was.sweeps, was.results) in
-    record { events = fit.0; attempts = fit.1; sweeps = fit.2; results = fit.3 }
+    subst Fit (sym same) (was.events, was.attempts, was.sweeps, was.workers, was.results) in
+    record { events = fit.0; attempts = fit.1; sweeps = fit.2; workers = fit.3; results = fit.4 }
 
 -- a master with other tables and another history, whose other lists are the same
 abbrev pub with_tables : Inside → Workers → List (List ℕ) → Vec SplitEntry Global → Vec PartState Global →

@@ -1,5 +1,5 @@
 -- What a cluster and a master keep.
-use Rattle.std.specs.Prelude.{◌≤◌, length, map, vec_capacity}
+use Rattle.std.specs.Prelude.{◌≡◌, ◌≤◌, length, map, vec_capacity}
 use Rattle.master_state.specs.States.{Cluster, Setup, State}
 use Rattle.master_state.specs.Jobs.{Job, IsKept}
 use Rattle.master_core.specs.declared.cluster.Cluster.TheInside as cluster
@@ -36,11 +36,12 @@ job_of m = record {
   results = m.results.items;
 }
 
--- the lists have room for all that the limits allow
+-- the lists have room for all that the limits allow, and the sweeps a count for each worker
 pub record HasRoom (m : Inside) : Type 0 where
   pub events : m.limits.events ≤ m.history.room
   pub attempts : m.limits.attempts ≤ vec_capacity m.starts
   pub sweeps : m.limits.sweeps ≤ m.sweeps.room
+  pub workers : m.sweeps.workers ≡ length m.cluster.slots
   pub results : m.cluster.parts ≤ vec_capacity m.results
 
 -- the engine is near where it says so

@@ -1,5 +1,5 @@
 //! The lists that grow with a master's history, and that of its pending splits.
-ghost use Rattle.std.specs.Prelude.{◌≡◌, [], IfOk, vec_capacity};
+ghost use Rattle.std.specs.Prelude.{◌≡◌, ◌≤◌, [], IfOk, vec_capacity};
 ghost use Rattle.master_core.specs.Near.{flags_of};
 
 use compact_lists::{CountList, EventList};
@@ -17,8 +17,14 @@ pub(crate) struct Lists {
     pub(crate) history: EventList,
 }
 
-// Empty lists, with room for a result of each part and for all that the limits allow.
-pub(crate) fn empty_lists(alloc: Global, parts: usize, limits: Limits) -> Result<Lists, AllocError>
+// Empty lists, with room for a result of each part and for all that the limits allow of so many workers.
+pub(crate) fn empty_lists(
+    alloc: Global,
+    workers: usize,
+    parts: usize,
+    limits: Limits,
+) -> Result<Lists, AllocError>
+    requires few { workers ≤ 256 }
     ensures results { IfOk result (λ lists. lists.results.items ≡ []) }
     ensures starts { IfOk result (λ lists. lists.starts.items ≡ []) }
     ensures sweeps { IfOk result (λ lists. lists.sweeps.items ≡ []) }
@@ -26,11 +32,12 @@ pub(crate) fn empty_lists(alloc: Global, parts: usize, limits: Limits) -> Result
     ensures parts { IfOk result (λ lists. vec_capacity lists.results ≡ parts) }
     ensures attempts { IfOk result (λ lists. vec_capacity lists.starts ≡ limits.attempts) }
     ensures counts { IfOk result (λ lists. lists.sweeps.room ≡ limits.sweeps) }
+    ensures workers { IfOk result (λ lists. lists.sweeps.workers ≡ workers) }
     ensures events { IfOk result (λ lists. lists.history.room ≡ limits.events) }
 {
     let results = Vec::with_capacity(alloc, parts)?;
     let starts = Vec::with_capacity(alloc, limits.attempts as usize)?;
-    let sweeps = CountList::with_room(alloc, limits.sweeps)?;
+    let sweeps = CountList::with_room(alloc, limits.sweeps, workers)?;
     let history = EventList::with_room(alloc, limits.events)?;
     Ok(Lists {
         results,

@@ -88,7 +88,7 @@ impl Master {
         let splits = pending_entries(alloc, cluster.splits())?;
         let holders = first_holders(alloc, &cluster)?;
         let workers = WorkerTable::new(alloc, cluster.slots(), cluster.silence())?;
-        let lists = empty_lists(alloc, cluster.parts(), limits)?;
+        let lists = empty_lists(alloc, cluster.slots().len(), cluster.parts(), limits)?;
         Ok(Master {
             cluster,
             limits,

@@ -61,6 +61,10 @@ lives_still = refl
 dies_now : is_silent (swept (played job three_sweeps).workers one_beat) 0 ≡ true
 dies_now = refl
 
+-- of each sweep the count of the one worker is kept
+counts_kept : (played job three_sweeps).sweeps ≡ (1 ∷ []) ∷ (1 ∷ []) ∷ (1 ∷ []) ∷ []
+counts_kept = refl
+
 -- the sweep in which it dies takes the split back, and its replica is gone
 nothing_left : (played job silent).splits ≡ Pending ∷ []
 nothing_left = refl

@@ -1,7 +1,7 @@
 -- A sweep, and a return, keep a state tidy.
 use Rattle.std.proofs.Common.{◌≡◌, ◌≢◌, ℕ, suc, ◌+◌, ◌<◌, ◌&&◌, List, [], ◌∷◌, ◌++◌, length, map, cond, Bool}
 use Rattle.std.proofs.Common.{true, false, None, refl, ap, ◌∙◌, arith, All}
-use Rattle.std.specs.Prelude.{fold, filter}
+use Rattle.std.specs.Prelude.{fold, filter, take}
 use Rattle.std.specs.List.{list_any, enumerate_from, range_with_len}
 use Rattle.std.proofs.lemmas.Bool.{leb-false, or_parts}
 use Rattle.std.proofs.lemmas.Grind.{common_steps}
@@ -33,7 +33,10 @@ events_all_died s (w ∷ workers) = events_all_died (died s w) workers
 
 -- the state in which all have heard, before those die that were silent too long
 abbrev pub heard_state : State → List ℕ → State
-heard_state s counts = record s { workers = swept s.workers counts; sweeps = s.sweeps ++ counts ∷ [] }
+heard_state s counts = record s {
+  workers = swept s.workers counts;
+  sweeps = s.sweeps ++ take (length s.workers.each) counts ∷ [];
+}
 
 pub tidy_sweep : (setup : Setup) (s : State) (counts : List ℕ) → IsTidy setup s →
     refusal setup s (Sweep counts) ≡ None →

@@ -1,6 +1,6 @@
 -- What each event makes of a state.
 use Rattle.std.specs.Prelude.{ℕ, ◌+◌, ◌&&◌, Bool, not, if◌then◌else◌, List, [], ◌∷◌, ◌++◌, length, map}
-use Rattle.std.specs.Prelude.{filter, fold, find}
+use Rattle.std.specs.Prelude.{filter, fold, find, take}
 use Rattle.std.specs.List.{range_with_len}
 use Rattle.std.specs.Option.{option_map_or}
 use Rattle.node_ids.specs.Updates.{updated}
@@ -91,11 +91,12 @@ with_map_failed s a =
     let left = without_attempt s a in
     record left { workers = with_bar left.workers (split_running s a) (worker_of s a) }
 
--- beats and silences change by the counts, then each worker dies that was silent too long
+-- Beats and silences change by the counts, of which those of the workers are kept. Then each worker dies that
+-- was silent too long.
 abbrev pub with_sweep : State → List ℕ → State
 with_sweep s counts =
     let table = swept s.workers counts in
-    fold died (record s { workers = table; sweeps = s.sweeps ++ counts ∷ [] })
+    fold died (record s { workers = table; sweeps = s.sweeps ++ take (length s.workers.each) counts ∷ [] })
     (filter (is_silent table) (range_with_len 0 (length table.each)))
 
 -- the lowest pending part runs the next attempt on the lowest live worker with a free slot

@@ -38,7 +38,7 @@ pub record State : Type 0 where
   pub splits : List SplitState
   pub parts : List PartState
   pub starts : List Start  -- every attempt that was made, the first one first
-  pub sweeps : List (List ℕ)  -- the counts of every sweep
+  pub sweeps : List (List ℕ)  -- of every sweep, the count of each worker
   pub events : ℕ  -- how many there were
 
 -- all workers live, all splits and parts pending, nothing barred

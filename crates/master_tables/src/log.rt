@@ -30,11 +30,13 @@ pub fn record_start(starts: &mut Vec<Start>, work: Work, worker: WorkerNo) -> At
 }
 
 /// Adds the counts of a sweep to a list with room for them, and gives their place.
-pub fn record_counts(sweeps: &mut CountList, counts: &[u64; 256]) -> u32
+pub fn record_counts(sweeps: &mut CountList, counts: &[u64]) -> u32
     requires room { length sweeps.old.items < sweeps.old.room }
+    requires workers { length counts.now ≡ sweeps.old.workers }
     requires few { length sweeps.old.items < 2 ^ 32 - 1 }
     ensures items { sweeps.new.items ≡ sweeps.old.items ++ counts.now ∷ [] }
     ensures capacity { sweeps.new.room ≡ sweeps.old.room }
+    ensures workers { sweeps.new.workers ≡ sweeps.old.workers }
     ensures place { result ≡ length sweeps.old.items + 1 }
 {
     sweeps.push(counts);

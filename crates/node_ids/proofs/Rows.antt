@@ -74,7 +74,7 @@ with_worker-there w (x ∷ row) (suc i) few here before =
       | inr other ↦ rw (le-ltb w x le, ne_eqb w x other) (ap (λ ys. x ∷ ys) rest)
     ]
 
--- the row has the worker, and those that it had
+-- a row with a worker put in has this worker, and the workers of the row before
 pub in-with_worker : (w : ℕ) (row : List ℕ) (v : ℕ)
     → is_in_row (with_worker w row) v ≡ (w == v || is_in_row row v)
 in-with_worker w [] v = refl
@@ -89,7 +89,7 @@ in-with_worker w (x ∷ row) v =
           ]
     ]
 
--- so a set has the pair that was put in, and those that it had
+-- a set with a pair put in has this pair, and the pairs of the set before
 pub has-with_pair : (rows : List (List ℕ)) (s w t v : ℕ) → s < length rows
     → has_pair (with_pair rows s w) t v ≡ ((t == s && w == v) || has_pair rows t v)
 has-with_pair rows s w t v known =
@@ -186,7 +186,7 @@ in-marked_row words s (suc n) w =
         ≡ (nat_lt w (n + 1) && has_mark words s w)
     last = in_last (has_mark words s) n w
 
--- the pairs of the rows are those that are marked
+-- the rows have exactly the marked pairs
 pub has-marked_rows : (words : List ℕ) (splits n s w : ℕ) → s < splits
     → has_pair (marked_rows words splits n) s w ≡ (nat_lt w n && has_mark words s w)
 has-marked_rows words splits n s w known =

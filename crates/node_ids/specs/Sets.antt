@@ -80,7 +80,7 @@ no_marks splits = replicate (4 * splits) 0
 abbrev pub HasRoomFor : List ℕ → ℕ → Type 0
 HasRoomFor words s = 4 * s + 4 ≤ length words
 
--- those of so many workers whose pair with s is marked
+-- the workers, of so many, whose pair with s is marked
 abbrev pub marked_row : List ℕ → ℕ → ℕ → List ℕ
 marked_row words workers s = filter (has_mark words s) (range_with_len 0 workers)
 

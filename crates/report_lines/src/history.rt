@@ -6,7 +6,7 @@ ghost use Rattle.report_lines.specs.History.{start_line, start_lines, sweep_line
 ghost use Rattle.text_lines.specs.Texts.{name_of};
 
 use crate::answers::{add_backup, add_reduce, add_reduce_of, add_start_of, add_wave};
-use compact_lists::{CountList, EventList};
+use compact_lists::{CountList, Counts, EventList};
 use master_state::{Event, Start, Work};
 use node_ids::{AttemptNo, SplitNo, SplitSet, WorkerNo};
 use std::alloc::AllocError;
@@ -22,8 +22,7 @@ pub fn add_history(
     sweeps: &CountList,
     history: &EventList,
 ) -> Result<(), AllocError>
-    requires splits { length splits.now ≤ 1024 }
-    requires workers { length workers.now ≤ 256 }
+    requires { length splits.now ≤ 1024 }
     ensures { OnOk result (string_bytes lines.new ≡ string_bytes lines.old
         ++ history_lines splits.now workers.now starts.now sweeps.now.items history.now.items) }
 {
@@ -42,8 +41,7 @@ fn add_event(
     sweeps: &CountList,
     event: &Event,
 ) -> Result<(), AllocError>
-    requires splits { length splits.now ≤ 1024 }
-    requires workers { length workers.now ≤ 256 }
+    requires { length splits.now ≤ 1024 }
     ensures { OnOk result (string_bytes lines.new ≡ string_bytes lines.old
         ++ event_lines splits.now workers.now starts.now sweeps.now.items event.now) }
 {
@@ -152,7 +150,6 @@ fn add_sweep_at(
     sweeps: &CountList,
     place: u32,
 ) -> Result<(), AllocError>
-    requires { length workers.now ≤ 256 }
     ensures { OnOk result (string_bytes lines.new
         ≡ string_bytes lines.old ++ sweep_lines workers.now (slice_get sweeps.now.items (place - 1))) }
 {
@@ -166,9 +163,8 @@ fn add_sweep_at(
 fn add_sweep(
     lines: &mut String,
     workers: &NameTable<'_>,
-    counts: &[u64; 256],
+    counts: &Counts<'_>,
 ) -> Result<(), AllocError>
-    requires { length workers.now ≤ 256 }
     ensures { OnOk result (string_bytes lines.new
         ≡ string_bytes lines.old ++ sweep_line workers.now counts.now) }
 {
@@ -179,13 +175,11 @@ fn add_sweep(
     write!(lines, "\n")
 }
 
-#[tactic(auto, using(std::proofs::lemmas::List::get_or_default))]
-fn add_count(lines: &mut String, counts: &[u64; 256], number: usize) -> Result<(), AllocError>
-    requires { number < 256 }
+fn add_count(lines: &mut String, counts: &Counts<'_>, number: usize) -> Result<(), AllocError>
     ensures { OnOk result (string_bytes lines.new
         ≡ string_bytes lines.old ++ 32 ∷ decimal (slice_index_or counts.now number 0)) }
 {
-    let count = counts[number];
+    let count = counts.of(number);
     write!(lines, " {count}")
 }
 

@@ -14,7 +14,8 @@ use Rattle.master_state.specs.Jobs.{Job, Answers, AnswersReduce, IsReply, Plain,
 use Rattle.master_state.specs.Jobs.{event_of}
 use Rattle.master_state.specs.Refusals.{Call, MapFailed, Withdraw, Die, Join, Add, Lose, ReduceStart}
 use Rattle.master_state.specs.Refusals.{PartFailed, Backup}
-use Rattle.hand_ledger.specs.Hands.{HandValue, counts_in, has_room, kept, last_place, noted, starts_in}
+use Rattle.hand_ledger.specs.Hands.{HandValue, counts_in, has_room, kept, last_place, noted, own_counts}
+use Rattle.hand_ledger.specs.Hands.{starts_in}
 use Rattle.hand_ledger.specs.Hands.{with_call}
 use Rattle.hand_ledger.specs.Settling.{LastStands, event_at}
 use Rattle.shared_master.specs.declared.calls.PlainCall.{PlainCall}
@@ -132,9 +133,10 @@ pub record IsReplyOf (setup : Setup) (job : Job) (reply : Reply) : Type 0 where
 abbrev pub Replies : Setup → Answer Reply (Unit {0}) → Type 0
 Replies setup given = Tells (λ reply. (job : Job) × IsReplyOf setup job reply) given
 
--- a sweep with its counts, by the place that these have among all sweeps
+-- a sweep with the counts of the workers, by the place that these have among all sweeps
 abbrev pub IsKeptSweep : HandValue → List ℕ → Plain → HandValue → Type 0
-IsKeptSweep hand counts given after = (n : ℕ) × IsKeptAs hand (events.Sweep n) (counts ∷ []) given after
+IsKeptSweep hand counts given after =
+    (n : ℕ) × IsKeptAs hand (events.Sweep n) (own_counts hand (counts ∷ [])) given after
 
 -- the workers that died in a sweep with this answer died in a master of this job
 abbrev pub AreDeadOf : Setup → List ℕ → Swept → Type 0

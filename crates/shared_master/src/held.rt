@@ -5,7 +5,7 @@ ghost use Rattle.block_map.specs.Copies.{AreCopies, holdings};
 ghost use Rattle.master_state.specs.Jobs.{died_in, GivesBack, IsGlance, TellsNext};
 ghost use Rattle.master_state.specs.Refusals.{Call, IsKnown};
 ghost use Rattle.master_state.specs.declared.events.Event.{Event};
-ghost use Rattle.hand_ledger.specs.Hands.{has_room, new_hand, noted};
+ghost use Rattle.hand_ledger.specs.Hands.{has_room, new_hand, noted, own_counts};
 ghost use Rattle.hand_ledger.specs.Settling.{all_calls};
 ghost use Rattle.hand_ledger.specs.declared.making.HandError.{HandError};
 ghost use Rattle.shared_master.specs.Steps.{answered, call_of, HasCounts, IsAt, IsBarrier, IsLast, IsOwn};
@@ -51,15 +51,16 @@ impl<L: Ledger + OfJob> Model for Held<L> {
 }
 
 impl<L: Ledger + OfJob> Held<L> {
-    // A hand without a call.
+    // A hand without a call, for the workers of the job.
     pub(crate) fn hand(&mut self, alloc: Global, room: Limits) -> Result<Hand<L>, HandError>
         ensures job { self.new.job ≡ self.old.job }
         ensures made { OnOk result (self.new.made ≡ self.old.made + 1) }
         ensures err { OnErr result (self.new ≡ self.old) }
         ensures limit { (result ≡ Err HandError.Limit) ↔ (self.old.made ≡ 4095) }
-        ensures hand { IfOk result (λ h. h ≡ new_hand room) }
+        ensures hand { IfOk result (λ h. h ≡ new_hand (length L.setup.cluster.slots) room) }
     {
-        self.hands.hand(alloc, room)
+        let workers = self.master.cluster().slots().len();
+        self.hands.hand(alloc, workers, room)
     }
 
     // Hands that exist at one time are no more than were made.
@@ -226,8 +227,8 @@ impl<L: Ledger + OfJob> Held<L> {
     }
 
     pub(crate) fn sweep(&mut self, hand: &mut Hand<L>, counts: &[u64; 256]) -> Swept
-        ensures step { IsStep self.old.job hand.old (Call.Sweep counts.now) (counts.now ∷ [])
-            result.answer self.new.job hand.new }
+        ensures step { IsStep self.old.job hand.old (Call.Sweep counts.now)
+            (own_counts hand.old (counts.now ∷ [])) result.answer self.new.job hand.new }
         ensures dead { (w : ℕ) → has_number result.dead w ≡ died_in self.old.job counts.now result.answer w }
         ensures old { IsMasterOf L.setup self.old.job }
         ensures made { self.new.made ≡ self.old.made }
@@ -291,7 +292,8 @@ fn ignore<L: Ledger>(hand: &mut Hand<L>, counts: usize, why: Why)
     hand.note(had_room, why);
 }
 
-// Keeps the event of an accepted call in the hand, with its counts; or notes why the call was ignored.
+// Keeps the event of an accepted call in the hand, with the counts of the workers; or notes why the call was
+// ignored.
 fn enter<L: Ledger, T, B>(
     master: &Master,
     hands: &mut Hands<L>,
@@ -303,7 +305,7 @@ fn enter<L: Ledger, T, B>(
     requires counts { HasCounts master.now.history answer.now (length counts.now) }
     requires room { has_room hand.old (length counts.now) 0 ≡ true }
     ensures hand { (event : Event) → IsAt master.now.history answer.now event
-        → hand.new ≡ answered hand.old event counts.now answer.now }
+        → hand.new ≡ answered hand.old event (own_counts hand.old counts.now) answer.now }
     ensures total { hands.new.total ≡ total_after hands.old.total answer.now }
     ensures made { hands.new.made ≡ hands.old.made }
 {

@@ -2,7 +2,7 @@ ghost use Rattle.std.specs.Prelude.{◌≡◌, ◌<◌, ◌≤◌, [], ◌∷◌
 ghost use Rattle.master_state.specs.declared.events.Event.{Event};
 ghost use Rattle.master_state.specs.Jobs.{GivesBack};
 ghost use Rattle.master_state.specs.Refusals.{Call};
-ghost use Rattle.hand_ledger.specs.Hands.{new_hand};
+ghost use Rattle.hand_ledger.specs.Hands.{new_hand, own_counts};
 ghost use Rattle.shared_master.specs.Held.{AreCopiesOf, IsMasterOf, IsShownOf};
 ghost use Rattle.shared_master.specs.Steps.{AreDeadOf, AreSizesOf, IsKeptAs, IsKeptBackup, IsKeptReduce};
 ghost use Rattle.shared_master.specs.Steps.{IsKeptSweep, IsKnownTo, IsReduceStepOf, IsStepOf, Replies};
@@ -78,7 +78,7 @@ impl<L: Ledger + OfJob> SharedMaster<L> {
 
     /// A hand for one thread, with all the room that it will have.
     pub fn hand<R: Wait>(&self, rt: &R, alloc: Global, room: Limits) -> Result<Hand<L>, HandError>
-        ensures { IfOk result (λ h. h ≡ new_hand room) }
+        ensures { IfOk result (λ h. h ≡ new_hand (length L.setup.cluster.slots) room) }
     {
         self.lock.lock(rt).hand(alloc, room)
     }
@@ -237,12 +237,12 @@ impl<L: Ledger + OfJob> SharedMaster<L> {
         self.lock.lock(rt).reduce_start(alloc, hand)
     }
 
-    /// `Master::sweep` under the lock. The hand keeps the counts.
+    /// `Master::sweep` under the lock. The hand keeps the counts of the workers.
     pub fn sweep<R: Wait>(&self, rt: &R, hand: &mut Hand<L>, counts: &[u64; 256]) -> Swept
         ensures kept { IsKeptSweep hand.old counts.now result.answer hand.new }
         ensures dead { AreDeadOf L.setup counts.now result }
-        ensures step { IsStepOf L.setup hand.old (Call.Sweep counts.now) (counts.now ∷ []) result.answer
-            hand.new }
+        ensures step { IsStepOf L.setup hand.old (Call.Sweep counts.now)
+            (own_counts hand.old (counts.now ∷ [])) result.answer hand.new }
     {
         self.lock.lock(rt).sweep(hand, counts)
     }

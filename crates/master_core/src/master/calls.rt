@@ -319,6 +319,7 @@ impl Master {
     }
 
     /// Lets each live worker hear the count of its beats, and marks those dead who have been silent too long.
+    /// The counts past the last worker say nothing, and are not kept.
     pub fn sweep(&mut self, counts: &[u64; 256]) -> Swept
         ensures { AnswersSweep self.old counts.now result.answer result.dead self.new }
     {
@@ -337,7 +338,8 @@ impl Master {
             &mut self.parts,
             &dead,
         );
-        let place = record_counts(&mut self.sweeps, counts);
+        let count = self.sweeps.workers();
+        let place = record_counts(&mut self.sweeps, &counts[..count]);
         Swept {
             answer: Answer::Accepted(record_event(&mut self.history, Event::Sweep(place)), ()),
             dead,

@@ -7,7 +7,7 @@ pub loop-i-preserved : goal.loop-i-preserved
 loop-i-preserved c = record {
   places = length-set c.loop-i.rises c.loop-i.i _ ∙ c.loop-i.invariant.places;
   so_far = rises_more c.args.base.now c.args.counts.now c.loop-i.rises c.loop-i.i
-      (omega (arith, c.loop-i-test.true, c.told-base)) (omega (arith, c.loop-i-test.true, c.told-counts))
-      (omega (arith, c.loop-i-test.true, c.loop-i.invariant.places)) (omega (arith, c.if-count-low.false))
-      (omega (arith, c.count-1.element_fits)) c.loop-i.invariant.so_far;
+      (search arith) (search arith)
+      (search arith) (search arith)
+      (search arith) c.loop-i.invariant.so_far;
 }

@@ -1,7 +1,7 @@
 use Rattle.std.proofs.Common.{◌≡◌, ◌<◌, List, [], ◌∷◌, ◌++◌, length, get_or, take, drop, refl, sym, ap}
 use Rattle.std.proofs.Common.{subst, ◌∙◌, arith}
 use Rattle.std.proofs.lemmas.Option.{get_or_from_slice_get}
-use Rattle.hand_ledger.specs.Hands.{Kept, kept}
+use Rattle.hand_ledger.specs.Hands.{Kept, counts_in, kept}
 use Rattle.hand_ledger.specs.Inside.{calls_of}
 use Rattle.hand_ledger.specs.Marks.{Marks}
 use Rattle.hand_ledger.proofs.Calls.{counts_of, starts_of, taken_step, calls_step}
@@ -10,7 +10,7 @@ use Rattle.hand_ledger.proofs.marks.mark_all.Goals as goal
 pub loop-index-preserved : goal.loop-index-preserved
 loop-index-preserved c =
     let es = c.args.entries.now.items in
-    let cs = c.args.counts.now in
+    let cs = c.args.counts.now.items in
     let ss = c.args.starts.now in
     let i = c.loop-index.index in
     let e = c.at-entry.result in
@@ -22,9 +22,10 @@ loop-index-preserved c =
       counts = omega (
         arith,
         kept_so.counts,
-        c.counts_in-new_counts.ensures,
+        c.counts_in-new_counts.ensures.value,
         taken_step counts_of es i e lt at,
       );
+      few = omega (arith, kept_so.few, c.counts_in-new_counts.ensures.few);
       starts = omega (
         arith,
         kept_so.starts,
@@ -35,11 +36,12 @@ loop-index-preserved c =
           subst (λ (l : List Kept). Marks c.args.log.now l c.mark.new.found)
           (ap (λ (call : Kept). (before ++ calls_of (take i es) cs ss) ++ call ∷ [])
           (λ k. kept e.place e.event
-          ((c.part.ensures ∙ (λ j. take (c.counts_in-new_counts.ensures j) (drop (kept_so.counts j) cs))) k)
-          ((c.part-in-loop-index.ensures
+          (take (counts_in e.event) (drop (kept_so.counts k) cs))
+          ((c.part-new_part.ensures
           ∙ (λ j. take (c.starts_in-new_starts.ensures.value j) (drop (kept_so.starts j) ss))) k))
           ∙ calls_step before es i e cs ss lt at)
           (c.mark.ensures.marks c.args.log.now (before ++ calls_of (take i es) cs ss)
-          (kept e.place e.event c.part.result.now c.part-in-loop-index.result.now) refl c.has-is_right.ensures
+          (kept e.place e.event (take (counts_in e.event) (drop c.loop-index.counts_done cs))
+          c.part-new_part.result.now) refl c.has-is_right.ensures
           (kept_so.marks before m));
     }

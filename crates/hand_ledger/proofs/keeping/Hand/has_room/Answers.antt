@@ -12,7 +12,7 @@ pub returns-then-counts-self : goal.returns-then-counts-self
 returns-then-counts-self g c =
     let h = c.self.inside in
     second_false (length h.entries.items) h.room.events (length h.counts.items + c.args.counts) h.room.sweeps
-    _ _ (omega (arith, c.len.ensures)) (omega (arith, c.len-2.ensures, h.counts.ok.0))
+    _ _ (omega (arith, c.len.ensures)) (omega (arith, c.len-2.ensures))
     ∙ room_is c.args.counts c.args.starts c.self.view_is c.self.invariant.2
 
 pub returns : goal.returns
@@ -22,5 +22,5 @@ returns g c =
     ap (λ n. nat_le c.args.starts (h.room.attempts - n)) (c.len-3.ensures ∙ h.starts.ok.0)
     ∙ fits_rest (length h.starts.items) c.args.starts h.room.attempts lists.few_starts
     ∙ third_is (length h.entries.items) h.room.events (length h.counts.items + c.args.counts) h.room.sweeps _
-    _ (omega (arith, c.len.ensures)) (omega (arith, c.len-2.ensures, h.counts.ok.0))
+    _ (omega (arith, c.len.ensures)) (omega (arith, c.len-2.ensures))
     ∙ room_is c.args.counts c.args.starts c.self.view_is lists

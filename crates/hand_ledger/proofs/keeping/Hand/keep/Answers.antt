@@ -1,6 +1,7 @@
 use Rattle.std.proofs.Common.{◌≡◌, ◌+◌, ◌<◌, ◌≤◌, length, List, [], ◌∷◌, ◌++◌, ap, ◌∙◌, arith}
-use Rattle.std.proofs.lemmas.List.{length-append}
-use Rattle.hand_ledger.specs.Hands.{HandValue, Kept, kept, counts_in, starts_in, with_call}
+use Rattle.std.specs.Prelude.{map, take}
+use Rattle.std.proofs.lemmas.List.{length-append, length-map}
+use Rattle.hand_ledger.specs.Hands.{HandValue, Kept, kept, counts_in, own_counts, starts_in, with_call}
 use Rattle.hand_ledger.specs.declared.entries.Entry.{Entry}
 use Rattle.hand_ledger.specs.Inside.{calls_of}
 use Rattle.hand_ledger.proofs.Calls.{three_true, room_is, kept_more, calls_kept, hand_from}
@@ -21,14 +22,14 @@ pub push-requires : goal.push-requires
 push-requires g c =
     let all = fits g (goal.at.push-requires g c).After-add in omega (arith, all.0, c.self.invariant.3)
 
+pub add_counts-requires : goal.add_counts-requires
+add_counts-requires g c =
+    let all = fits g (goal.at.add_counts-requires g c).After-add in
+    omega (arith, all.1, c.self.invariant.4, c.requires.counts)
+
 pub add_all-requires : goal.add_all-requires
 add_all-requires g c =
     let all = fits g (goal.at.add_all-requires g c).After-add in
-    omega (arith, all.1, c.self.invariant.4, c.self.inside.counts.ok.0, c.requires.counts)
-
-pub add_all-requires-2 : goal.add_all-requires-2
-add_all-requires-2 g c =
-    let all = fits g (goal.at.add_all-requires-2 g c).After-add in
     omega (arith, all.2, c.self.invariant.5, c.self.inside.starts.ok.0, c.requires.starts)
 
 pub invariant_of-self : goal.invariant_of-self
@@ -44,13 +45,14 @@ invariant_of-self g c =
         ap length c.push.ensures.items,
         length-append h.entries.items (e ∷ []),
       ),
-      rw (c.push.ensures.items, c.add_all.ensures.items, c.add_all-2.ensures.items)
-          (kept_more e c.args.counts.now
-          c.args.starts.now c.requires.counts c.requires.starts c.requires.place
+      rw (c.push.ensures.items, c.add_counts.ensures.items, c.add_all.ensures.items)
+          (kept_more e (map (take h.counts.workers) c.args.counts.now) c.args.starts.now
+          (length-map c.args.counts.now (take h.counts.workers) ∙ c.requires.counts) c.requires.starts
+          c.requires.place
           (fits g (goal.at.invariant_of-self g c).After-add) inv.2),
       omega (arith, c.push.ensures.room, inv.3),
-      omega (arith, c.add_all.ensures.capacity, inv.4),
-      omega (arith, c.add_all-2.ensures.capacity, inv.5),
+      omega (arith, c.add_counts.ensures.room, inv.4),
+      omega (arith, c.add_all.ensures.capacity, inv.5),
     )
 
 pub returns-clause-value : goal.returns-clause-value
@@ -58,13 +60,14 @@ returns-clause-value g c =
     let h = c.self.inside in
     let inv = c.self.invariant in
     let e : Entry = record { place = c.args.place; event = c.args.event.now } in
-    let made : calls_of c.push.new.self.items c.add_all.new.list.items c.add_all-2.new.list.items
+    let own = map (take h.counts.workers) c.args.counts.now in
+    let made : calls_of c.push.new.self.items c.add_counts.new.list.items c.add_all.new.list.items
     ≡ calls_of h.entries.items h.counts.items h.starts.items
-    ++ kept c.args.place c.args.event.now c.args.counts.now c.args.starts.now ∷ [] =
-    (λ j. calls_of (c.push.ensures.items j) (c.add_all.ensures.items j)
-    (c.add_all-2.ensures.items j))
-    ∙ calls_kept h.entries.items e h.counts.items c.args.counts.now h.starts.items c.args.starts.now
-    inv.2.counts_are inv.2.starts_are c.requires.counts c.requires.starts in
-    ap (λ (calls : List Kept). hand_from calls h.room h.strange h.full) made
+    ++ kept c.args.place c.args.event.now own c.args.starts.now ∷ [] =
+    (λ j. calls_of (c.push.ensures.items j) (c.add_counts.ensures.items j) (c.add_all.ensures.items j))
+    ∙ calls_kept h.entries.items e h.counts.items own h.starts.items c.args.starts.now inv.2.counts_are
+    inv.2.starts_are (length-map c.args.counts.now (take h.counts.workers) ∙ c.requires.counts)
+    c.requires.starts in
+    (λ k. hand_from (made k) (c.add_counts.ensures.workers k) h.room h.strange h.full)
     ∙ ap (λ (v : HandValue). with_call v
-    (kept c.args.place c.args.event.now c.args.counts.now c.args.starts.now)) c.self.view_is
+    (kept c.args.place c.args.event.now (own_counts v c.args.counts.now) c.args.starts.now)) c.self.view_is

@@ -33,6 +33,7 @@ invariant_of-result c =
         events = omega (arith, c.in_ok-lists.ensures.events);
         attempts = omega (arith, c.in_ok-lists.ensures.attempts);
         sweeps = omega (arith, c.in_ok-lists.ensures.counts);
+        workers = search (arith, c.in_ok-lists.ensures.workers);
         results = omega (arith, c.in_ok-lists.ensures.parts, c.parts-2.ensures.count);
       };
       made = made_from setup c.in_ok-splits.splits.items

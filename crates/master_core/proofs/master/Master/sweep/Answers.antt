@@ -1,4 +1,5 @@
-use Rattle.std.proofs.Common.{ℕ, [], ◌∷◌, ◌++◌, refl, ap, sym, ◌∙◌}
+use Rattle.std.proofs.Common.{◌≡◌, ℕ, List, [], ◌∷◌, ◌++◌, length, refl, ap, sym, ◌∙◌}
+use Rattle.std.proofs.lemmas.List.{length-map}
 use Rattle.worker_table.specs.Workers.{Workers, is_silent, swept}
 use Rattle.master_state.specs.declared.events.Event.TheVariants as events
 use Rattle.master_state.specs.Refusals.{Sweep}
@@ -23,16 +24,24 @@ after : (c : goal.After-record_event) →
 after c =
     let old = c.self.inside in
     let counts = c.args.counts.now in
+    let workers : c.workers-count.result ≡ length old.workers.each =
+    c.workers-count.ensures.count ∙ c.self.invariant.room.workers
+    ∙ ap (λ (slots : List ℕ). length slots) (sym c.self.invariant.kept.tidy.slots)
+    ∙ length-map old.workers.each _ in
     follows (Sweep counts) c.self.invariant c.self.view_is tt
     (rw (sym c.has_no_sweep.ensures ∙ c.if-has_no_sweep.false) refl)
-    (rw (c.record_event.ensures.capacity, c.record_counts-place.ensures.capacity) refl)
+    (rw (
+      c.record_event.ensures.capacity,
+      c.record_counts-place.ensures.capacity,
+      c.record_counts-place.ensures.workers,
+    ) refl)
     (c.record_event.ensures.items
     ∙ ap (λ (n : ℕ). old.history.items ++ events.Sweep n ∷ []) c.record_counts-place.ensures.place)
     c.record_event.ensures.place
     (swept_is (state_of old) counts c.sweep-dead.result c.sweep-dead.new.self _ c.sweep-dead.ensures.heard
     c.sweep-dead.ensures.silent
     (c.bury_all.ensures.died (heard_state (state_of old) counts) (sym c.sweep-dead.ensures.heard) refl refl
-    refl) ∙ rw c.record_counts-place.ensures.items refl) refl
+    refl) ∙ rw (c.record_counts-place.ensures.items, workers) refl) refl
     (c.bury_all.ensures.made (setup_of old) c.self.invariant.made)
     (near_swept (state_of old) counts old.engine c.turn_far_by.new.self old.cluster c.sweep-dead.result _ _
     c.turn_far_by.ensures c.self.invariant.near

@@ -1,0 +1,91 @@
+ghost use Rattle.std.specs.Prelude.{◌≡◌, ◌<◌, ◌≤◌, ◌+◌, ◌^◌, ◌++◌, ◌∷◌, [], length, IfOk, Some, slice_get};
+ghost use Rattle.std.specs.Prelude.{vec_capacity, vec_len};
+
+use std::alloc::{AllocError, Global};
+use std::marker::Model;
+
+// Rows of equal width, one after another in one list, which has all the room that it will have.
+#[derive(Drop)]
+pub(crate) struct RowTable<T: Copy> {
+    items: Vec<T>,
+    width: usize,
+    rows: usize,
+    room: u32,
+}
+
+impl<T: Copy> Model for RowTable<T> {
+    ghost use Rattle.std.specs.Prelude.{◌≡◌, ◌<◌, ◌≤◌, ◌*◌, ◌^◌, length, vec_capacity};
+    ghost use Rattle.compact_lists.specs.Rows.{RowsValue, cut_rows};
+
+    ghost Value = { RowsValue T };
+
+    ghost view = { λ t. record { rows = cut_rows t.width t.rows t.items.items; room = t.room; width = t.width } };
+
+    ghost invariant = { λ t. (length t.items.items ≡ t.rows * t.width) × (t.rows ≤ t.room) × (t.rows < 2 ^ 32)
+        × (t.room * t.width ≤ vec_capacity t.items) × (t.width ≤ 256) };
+}
+
+impl<T: Copy> RowTable<T> {
+    // The empty table of such rows, with room for so many.
+    pub(crate) fn with_room(
+        alloc: Global,
+        room: u32,
+        width: usize,
+    ) -> Result<RowTable<T>, AllocError>
+        requires { width ≤ 256 }
+        ensures { IfOk result (λ t. t ≡ record { rows = []; room = room; width = width }) }
+    {
+        let items = Vec::with_capacity(alloc, room as usize * width)?;
+        Ok(RowTable {
+            items,
+            width,
+            rows: 0,
+            room,
+        })
+    }
+
+    pub(crate) fn len(&self) -> usize
+        ensures count { result ≡ length self.now.rows }
+        ensures most { result ≤ self.now.room }
+        ensures few { result < 2 ^ 32 }
+    {
+        self.rows
+    }
+
+    pub(crate) fn width(&self) -> usize
+        ensures { result ≡ self.now.width }
+    {
+        self.width
+    }
+
+    pub(crate) fn row(&self, index: usize) -> &[T]
+        requires { index < length self.now.rows }
+        ensures row { slice_get self.now.rows index ≡ Some result.now }
+        ensures width { length result.now ≡ self.now.width }
+    {
+        let from = index * self.width;
+        &self.items[from..from + self.width]
+    }
+
+    pub(crate) fn push(&mut self, row: &[T])
+        requires room { length self.old.rows < self.old.room }
+        requires width { length row.now ≡ self.old.width }
+        ensures rows { self.new.rows ≡ self.old.rows ++ row.now ∷ [] }
+        ensures room { self.new.room ≡ self.old.room }
+        ensures width { self.new.width ≡ self.old.width }
+    {
+        add_all(&mut self.items, row);
+        self.rows += 1;
+    }
+}
+
+/// Appends elements to a list that has room for them.
+pub fn add_all<T: Copy>(list: &mut Vec<T>, more: &[T])
+    requires { vec_len list.old + length more.now ≤ vec_capacity list.old }
+    ensures items { list.new.items ≡ list.old.items ++ more.now }
+    ensures capacity { vec_capacity list.new ≡ vec_capacity list.old }
+{
+    for item in more {
+        list.push_reserved(*item);
+    }
+}
