@@ -27,6 +27,20 @@ take() { # EXAMPLE
     wanted=$(< "$example.status")
 }
 
+# Makes a job whose index is so long that threads make its lines, and takes it.
+take_long_index() {
+    example=$room/long_index words=(run) wanted=0
+    awk 'BEGIN {
+        printf "job 1\nsilence 1000\nrack r\nworker a r 1\nsplit s 3 a\ndoc d s"
+        for (word = 10000; word < 15000; word++) printf " w%d", word
+        print "\nend"
+    }' > "$example.txt"
+    awk 'BEGIN {
+        print "index 5000"
+        for (word = 10000; word < 15000; word++) print "word w" word " d"
+    }' > "$example.out"
+}
+
 # Runs the program with one call refused; the words that it says and its status are in $said, and in $met what met it.
 # (A run that does not end is stopped after a time that none comes near.)
 run() { # PROGRAM KIND NTH
@@ -196,6 +210,8 @@ for program in "$@"; do
         take $name
         sweep_threads "$program" "mrjob: no thread (6)"
     done
+    take_long_index
+    sweep_threads "$program" "mrjob: no thread (6)"
 done
 
 # Refuses each allocation of a built test that holds whichever of them is refused.

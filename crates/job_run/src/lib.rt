@@ -1,11 +1,13 @@
 //! Jobs, from a reader's bytes to a writer's.
 //!
 //! `run_text` runs the job that a text declares on the threads of `job_threads`, and writes its outcome,
-//! `run_text_observed` all that was done before it (`specs/RunAnswer.antt`). The headline is told here once, of
-//! reports and of runs (`specs/Headlines.antt`). Below stand the texts of `script_text` and the lines of
-//! `report_lines`; `job_play` makes the cluster and the lines of an end.
+//! `run_text_observed` all that was done before it (`specs/RunAnswer.antt`). The lines of a long index are made
+//! by up to four threads. The headline is told here once, of reports and of runs (`specs/Headlines.antt`).
+//! Below stand the texts of `script_text` and the lines of `report_lines`; `job_play` makes the cluster and the
+//! lines of an end.
 #![tactic(auto)]
 
+mod index_text;
 pub mod laws;
 pub mod running;
 

@@ -10,6 +10,7 @@ ghost use Rattle.job_play.specs.PlayAnswer.{AreEnds, cluster_in};
 ghost use Rattle.job_run.specs.RunAnswer.{HasTextsNamed, IsToldAs, RunAnswer, TellsEnd, TellsJob, TellsRun, done_lines};
 ghost use Rattle.job_run.specs.RunAnswer.{job_in, ran_as, setup_on};
 
+use crate::index_text::{STACK_BYTES, index_text};
 use command_runner::ToolError;
 use job_play::clusters::cluster_of;
 use job_play::ending::add_open;
@@ -17,7 +18,7 @@ use job_threads::{Gate, Job, Observer, Record, RunError, Unobserved, run_recorde
 use line_rules::fault_answer;
 use master_core::Master;
 use master_state::Limits;
-use report_lines::{add_history, add_index};
+use report_lines::add_history;
 use script_text::{Head, Names, Script, ScriptText, read_job};
 use shuffle_reduce::Index;
 use std::alloc::{AllocError, Global};
@@ -206,7 +207,7 @@ fn job_of(alloc: Global, head: Head, script: &Script<'_>) -> Result<Job, AllocEr
 }
 
 // The lines of a run; none where the job has no outcome.
-fn tell<T: Threads>(
+fn tell<T: Threads + Wait>(
     rt: &T,
     alloc: Global,
     names: &Names<'_>,
@@ -229,7 +230,7 @@ fn tell<T: Threads>(
 }
 
 // The lines of a run that ended.
-fn tell_run<T: Threads>(
+fn tell_run<T: Threads + Wait>(
     rt: &T,
     alloc: Global,
     names: &Names<'_>,
@@ -281,7 +282,7 @@ fn add_done(
 }
 
 // The lines of how the job ended.
-fn ending_of<T: Threads>(
+fn ending_of<T: Threads + Wait>(
     rt: &T,
     alloc: Global,
     names: &Names<'_>,
@@ -308,7 +309,7 @@ fn ending_of<T: Threads>(
 
 // The lines of an index. The master has as many pieces of memory as its maps have words, so it is let go in a
 // thread of its own, where one can be started.
-fn index_beside<T: Threads>(
+fn index_beside<T: Threads + Wait>(
     rt: &T,
     alloc: Global,
     names: &Names<'_>,
@@ -317,18 +318,11 @@ fn index_beside<T: Threads>(
 ) -> Result<String, AllocError>
     ensures { IfOk result (λ lines. string_bytes lines ≡ index_lines names.now.documents index.now) }
 {
-    let aside = thread::spawn(rt, move || drop(master));
-    let lines = lines_of_index(alloc, names, index);
+    let builder = thread::Builder::new().stack_size(STACK_BYTES);
+    let aside = builder.spawn(rt, move || drop(master));
+    let lines = index_text(rt, alloc, &names.documents, index.entries());
     if let Ok(thread) = aside {
         thread.join(rt);
     }
     lines
-}
-
-fn lines_of_index(alloc: Global, names: &Names<'_>, index: &Index) -> Result<String, AllocError>
-    ensures { IfOk result (λ lines. string_bytes lines ≡ index_lines names.now.documents index.now) }
-{
-    let mut lines = String::new(alloc);
-    add_index(&mut lines, &names.documents, index.entries())?;
-    Ok(lines)
 }

@@ -14,6 +14,8 @@ mod histories;
 #[cfg(test)]
 mod jobs;
 #[cfg(test)]
+mod long_indexes;
+#[cfg(test)]
 mod made;
 #[cfg(test)]
 mod recorded;

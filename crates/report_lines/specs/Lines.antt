@@ -91,9 +91,15 @@ abbrev pub found_line : List Word → EntryView → List ℕ
 found_line documents entry =
     codes "word " ++ entry.word ++ flat_map (λ d. 32 ∷ name_of documents d) entry.documents ++ 10 ∷ []
 
+abbrev pub word_lines : List Word → List EntryView → List ℕ
+word_lines documents entries = flat_map (found_line documents) entries
+
+-- how many words the index has
+abbrev pub index_count : ℕ → List ℕ
+index_count count = codes "index " ++ decimal count ++ 10 ∷ []
+
 abbrev pub index_lines : List Word → List EntryView → List ℕ
-index_lines documents entries =
-    codes "index " ++ decimal (length entries) ++ 10 ∷ [] ++ flat_map (found_line documents) entries
+index_lines documents entries = index_count (length entries) ++ word_lines documents entries
 
 abbrev pub is_open : List SplitState → ℕ → Bool
 is_open states split = not (is_done (slice_index_or states split Pending))

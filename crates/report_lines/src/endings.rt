@@ -1,6 +1,7 @@
 ghost use Rattle.std.specs.Prelude.{◌≡◌, ◌++◌, OnOk, [], if◌then◌else◌, count_by, length, not, string_bytes};
 ghost use Rattle.master_state.specs.Tests.{is_done};
-ghost use Rattle.report_lines.specs.Lines.{found_line, index_lines, open_line, stuck_lines};
+ghost use Rattle.report_lines.specs.Lines.{found_line, index_count, index_lines, open_line, stuck_lines};
+ghost use Rattle.report_lines.specs.Lines.{word_lines};
 
 use master_state::SplitState;
 use std::alloc::AllocError;
@@ -16,8 +17,26 @@ pub fn add_index(
     ensures { OnOk result (string_bytes lines.new
         ≡ string_bytes lines.old ++ index_lines documents.now entries.now) }
 {
-    let count = entries.len();
-    write!(lines, "index {count}\n")?;
+    add_index_count(lines, entries.len())?;
+    add_words(lines, documents, entries)
+}
+
+/// How many words an index has.
+pub fn add_index_count(lines: &mut String, count: usize) -> Result<(), AllocError>
+    ensures { OnOk result (string_bytes lines.new ≡ string_bytes lines.old ++ index_count count) }
+{
+    write!(lines, "index {count}\n")
+}
+
+/// Each word with its documents.
+pub fn add_words(
+    lines: &mut String,
+    documents: &NameTable<'_>,
+    entries: &[Entry],
+) -> Result<(), AllocError>
+    ensures { OnOk result (string_bytes lines.new
+        ≡ string_bytes lines.old ++ word_lines documents.now entries.now) }
+{
     for entry in entries {
         add_found(lines, documents, entry)?;
     }

@@ -18,7 +18,7 @@ pub use answers::{
     add_accepted, add_answer, add_backup, add_copies, add_dead, add_ignored, add_reduce, add_start,
     add_wave,
 };
-pub use endings::{add_index, add_stuck};
+pub use endings::{add_index, add_index_count, add_stuck, add_words};
 pub use history::add_history;
 pub use report::{MadeReport, ReportLines, Turn};
 pub use standing::{add_open_parts, add_open_splits, add_outputs, add_workers};

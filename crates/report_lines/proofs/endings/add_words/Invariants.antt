@@ -1,7 +1,7 @@
 use Rattle.std.proofs.Common.{◌++◌, ◌≡◌, string_bytes, take}
 use Rattle.std.specs.List.{flat_map}
 use Rattle.report_lines.specs.Lines.{found_line}
-use Rattle.report_lines.proofs.endings.add_index.Given as goal
+use Rattle.report_lines.proofs.endings.add_words.Given as goal
 
 abbrev pub invariant-loop-entry : goal.invariant-loop-entry
 invariant-loop-entry l =
