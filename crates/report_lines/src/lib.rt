@@ -8,11 +8,14 @@
 #![tactic(auto)]
 
 mod answers;
+mod columns;
 mod endings;
 mod history;
 mod own_names;
 mod report;
+mod routes;
 mod standing;
+mod turns;
 
 pub use answers::{
     add_accepted, add_answer, add_backup, add_copies, add_dead, add_ignored, add_reduce, add_start,
@@ -20,5 +23,5 @@ pub use answers::{
 };
 pub use endings::{add_index, add_index_count, add_stuck, add_words};
 pub use history::add_history;
-pub use report::{MadeReport, ReportLines, Turn};
+pub use report::{MadeReport, ReportLines};
 pub use standing::{add_open_parts, add_open_splits, add_outputs, add_workers};

@@ -8,5 +8,5 @@ pub returns-in_default-clause-ok : goal.returns-in_default-clause-ok
 returns-in_default-clause-ok c =
     let names = c.args.script.now.names in
     on_ok_weaker c.perform.result
-    (performed_behind (flat_map (turn_lines names.splits names.workers) c.args.lines.now.turns.items))
+    (performed_behind (flat_map (turn_lines names.splits names.workers) c.args.lines.now.turns))
     c.perform.ensures.ok

@@ -19,7 +19,7 @@ returns-clause-report g c =
     let performed = subst (λ (job : Job). PerformedAll names script.target job script.commands.items before
     mid c.perform_all.new.master) c.requires.opening c.in_ok-perform_all.ensures.ok in
     report_is (setup_for c.args.master.now.setup.cluster script) script c.in_ok-end.end
-    c.perform_all.new.master before mid (flat_map (turn_lines names.splits names.workers) lines.turns.items)
+    c.perform_all.new.master before mid (flat_map (turn_lines names.splits names.workers) lines.turns)
     (string_bytes lines.last) _ _ performed (none names.splits names.workers) refl c.in_ok-end.ensures
     c.in_ok-lines.ensures
     (c.in_ok-perform_all.ensures.setup ∙ ap (λ (job : Job). job.setup) c.requires.opening) c.is_kept.ensures

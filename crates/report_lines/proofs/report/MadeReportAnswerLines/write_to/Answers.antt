@@ -6,33 +6,33 @@ use Rattle.command_runner.proofs.Waiting.{moved_both, on_err_of}
 use Rattle.report_lines.specs.Reports.{turn_lines}
 use Rattle.report_lines.proofs.report.MadeReportAnswerLines.write_to.Goals as goal
 
-pub returns-in_err-put_turns-clause-err : goal.returns-in_err-put_turns-clause-err
-returns-in_err-put_turns-clause-err g c =
-    let made = c.args.self in
-    on_err_of c.from_residual.result
-    (front_of_both made.piece (flat_map (turn_lines made.splits made.workers) made.lines.turns.items)
-    (string_bytes made.lines.last) _ _ (rw c.as_slice.ensures.value at c.in_err-put_turns.ensures.err))
-
 pub returns-in_err-put-clause-err : goal.returns-in_err-put-clause-err
 returns-in_err-put-clause-err g c =
     let made = c.args.self in
-    on_err_of c.from_residual-in_err-put.result
-    (front_moved_both made.piece (flat_map (turn_lines made.splits made.workers) made.lines.turns.items)
-    (string_bytes made.lines.last) _ _ _ _ (rw c.as_slice.ensures.value at c.in_ok-put_turns.ensures.ok)
-    (rw c.as_bytes.ensures.value at c.in_err-put.ensures.err))
+    on_err_of c.from_residual.result
+    (front_of_both made.piece (flat_map (turn_lines made.splits made.workers) made.lines.turns)
+    (string_bytes made.lines.last) _ _ c.in_err-put.ensures.err)
+
+pub returns-in_err-put-2-clause-err : goal.returns-in_err-put-2-clause-err
+returns-in_err-put-2-clause-err g c =
+    let made = c.args.self in
+    on_err_of c.from_residual-in_err-put-2.result
+    (front_moved_both made.piece (flat_map (turn_lines made.splits made.workers) made.lines.turns)
+    (string_bytes made.lines.last) _ _ _ _ c.in_ok-put.ensures.ok
+    (rw c.as_bytes.ensures.value at c.in_err-put-2.ensures.err))
 
 pub returns-clause-ok : goal.returns-clause-ok
 returns-clause-ok g c =
     let made = c.args.self in
-    let moved = moved_both made.piece (flat_map (turn_lines made.splits made.workers) made.lines.turns.items)
-    (string_bytes made.lines.last) _ _ _ _ _ (rw c.as_slice.ensures.value at c.in_ok-put_turns.ensures.ok)
-    (rw c.as_bytes.ensures.value at c.in_ok-put.ensures.ok) in
+    let moved = moved_both made.piece (flat_map (turn_lines made.splits made.workers) made.lines.turns)
+    (string_bytes made.lines.last) _ _ _ _ _ c.in_ok-put.ensures.ok
+    (rw c.as_bytes.ensures.value at c.in_ok-put-2.ensures.ok) in
     on_ok_weaker c.finish.result (all_moved _ _ _ _ _ moved) c.finish.ensures.ok
 
 pub returns-clause-err : goal.returns-clause-err
 returns-clause-err g c =
     let made = c.args.self in
-    let moved = moved_both made.piece (flat_map (turn_lines made.splits made.workers) made.lines.turns.items)
-    (string_bytes made.lines.last) _ _ _ _ _ (rw c.as_slice.ensures.value at c.in_ok-put_turns.ensures.ok)
-    (rw c.as_bytes.ensures.value at c.in_ok-put.ensures.ok) in
+    let moved = moved_both made.piece (flat_map (turn_lines made.splits made.workers) made.lines.turns)
+    (string_bytes made.lines.last) _ _ _ _ _ c.in_ok-put.ensures.ok
+    (rw c.as_bytes.ensures.value at c.in_ok-put-2.ensures.ok) in
     on_err_weaker c.finish.result (front_of_all _ _ _ _ _ moved) c.finish.ensures.err

@@ -3,7 +3,7 @@ use Rattle.std.specs.List.{flat_map}
 use Rattle.text_lines.specs.Streams.{AppendsFront, Moves}
 use Rattle.command_runner.proofs.Waiting.{front_moved, front_of_first, moved_more, next_text, on_err_of}
 use Rattle.report_lines.specs.Lines.{copy_line}
-use Rattle.report_lines.proofs.report.put_copies.Goals as goal
+use Rattle.report_lines.proofs.turns.put_copies.Goals as goal
 
 pub returns-in_err-put_copy-clause-err : goal.returns-in_err-put_copy-clause-err
 returns-in_err-put_copy-clause-err g c =

@@ -2,7 +2,7 @@ use Rattle.std.proofs.Common.{◌++◌, take}
 use Rattle.std.specs.List.{flat_map}
 use Rattle.text_lines.specs.Streams.{Moves}
 use Rattle.report_lines.specs.Lines.{copy_line}
-use Rattle.report_lines.proofs.report.put_copies.Given as goal
+use Rattle.report_lines.proofs.turns.put_copies.Given as goal
 
 abbrev pub invariant-loop-order : goal.invariant-loop-order
 invariant-loop-order g l =

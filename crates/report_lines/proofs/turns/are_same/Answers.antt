@@ -1,7 +1,7 @@
 use Rattle.std.proofs.Common.{◌≡◌, ◌==◌, ◌&&◌, ◌∙◌, Bool, true, arith, rules, subst, sym}
 use Rattle.std.specs.Cmp.Lexicographic.{pointwise_decides}
 use Rattle.block_map.specs.declared.CopyOrder.{CopyOrder}
-use Rattle.report_lines.proofs.report.are_same.Goals as goal
+use Rattle.report_lines.proofs.turns.are_same.Goals as goal
 
 -- what `==` answers at orders
 abbrev order_eq : CopyOrder → CopyOrder → Bool
