@@ -1,11 +1,12 @@
 #!/usr/bin/env python3
-"""Plays scripts of as many `copies` as a script has commands, of 1,024 splits each: their reports are long, and are
-written within little memory.
+"""Plays scripts of many `copies` of 1,024 splits: their reports are long, and are written within little memory.
 
     long_report.py PROGRAM..
 
-In the first script all `copies` order the same; in the second each worker's death or return comes between two of them.
-Each report is compared with what it is to be, byte by byte. The memory is what the program has at its peak. The last
+In the first script all `copies` order the same. In the others each orders otherwise than the one before: to another
+worker, for each split; one split from another worker and to another one; or to another worker for most splits and from
+another one for some. A report keeps a byte for each split that is copied to another worker than before, and the most
+that a `copies` can keep of where to is 1 KiB. Each report is compared with what it is to be, byte by byte. The memory is what the program has at its peak. The last
 line is 'N passed, M failed'.
 """
 import re
@@ -21,8 +22,7 @@ import crates  # (it ends a script quietly where head does)
 MEGABYTE = 1_000_000
 COMMANDS = 65_536
 SPLITS = [f"s{number}" for number in range(1024)]
-HEAD = ["script 1", "rack r", "rack q", "worker a r 1", "worker b q 1", "worker c q 1"]
-HEAD += [*(f"split {split} 1 a" for split in SPLITS), "begin"]
+ROUNDS = COMMANDS // 4
 
 # A child's peak is at least what its parent has when it starts, so a small process starts it: it tells the peak in
 # KiB and the status on standard error.
@@ -36,8 +36,21 @@ print(used.ru_maxrss, os.waitstatus_to_exitcode(status), file=sys.stderr)
 """
 
 
-def orders(to):
-    return "".join([f"copies {len(SPLITS)}\n", *(f"copy {split} a {to}\n" for split in SPLITS)]).encode()
+def head(racks, workers, holders):
+    """A head with these racks, these workers as pairs with their racks, and all splits on these holders."""
+    lines = ["script 1", *(f"rack {rack}" for rack in racks), *(f"worker {name} {rack} 1" for name, rack in workers)]
+    return [*lines, *(f"split {split} 1 {' '.join(holders)}" for split in SPLITS), "begin"]
+
+
+def orders(*pairs):
+    """The lines of a `copies`, where all splits go from and to the last pair, and the first ones by the others."""
+    routes = chain(pairs[:-1], repeat(pairs[-1]))
+    lines = (f"copy {split} {source} {to}\n" for split, (source, to) in zip(SPLITS, routes))
+    return f"copies {len(SPLITS)}\n{''.join(lines)}".encode()
+
+
+def accepted(at):
+    return f"accepted {at}\n".encode()
 
 
 def open_splits():
@@ -46,23 +59,55 @@ def open_splits():
 
 def the_same():
     """A script whose `copies` all order the same, and the pieces of its report."""
-    return ["copies"] * COMMANDS, chain(repeat(orders("b"), COMMANDS), [open_splits()])
+    lines = [*head("rq", ["ar", "bq", "cq"], "a"), *["copies"] * COMMANDS]
+    return lines, repeat(orders("ab"), COMMANDS)
 
 
 def each_another():
-    """A script in which a worker dies or returns before each of its `copies`, and the pieces of its report."""
-    rounds = COMMANDS // 4
-    commands = ["die b", "copies", "join b", "copies"] * rounds
-    told = (f"accepted {2 * at + 1}\n".encode() + orders("c") + f"accepted {2 * at + 2}\n".encode() + orders("b")
-            for at in range(rounds))
-    return commands, chain(told, [open_splits()])
+    """Before each `copies` the worker to which all splits would go dies or returns."""
+    lines = [*head("rq", ["ar", "bq", "cq"], "a"), *["die b", "copies", "join b", "copies"] * ROUNDS]
+    dead, live = orders("ac"), orders("ab")
+    return lines, (accepted(2 * at + 1) + dead + accepted(2 * at + 2) + live for at in range(ROUNDS))
 
 
-# Each kind of script, and how many bytes a program may have at its peak.
-ALL = {"all copies the same": (the_same, 60 * MEGABYTE), "each copies another": (each_another, 400 * MEGABYTE)}
+def another_of_one_split():
+    """Before each `copies` a split is lost by its first holder, or is there again."""
+    lines = head("rq", ["ar", "bq", "cq"], "ab")
+    for at in range(ROUNDS):
+        split = SPLITS[at % len(SPLITS)]
+        lines += [f"lose {split} a", "copies", f"add {split} a", "copies"]
+    whole = orders("ac")
+
+    def pieces():
+        for at in range(ROUNDS):
+            split = SPLITS[at % len(SPLITS)]
+            lost = whole.replace(f"copy {split} a c\n".encode(), f"copy {split} b a\n".encode())
+            yield accepted(2 * at + 1) + lost + accepted(2 * at + 2) + whole
+
+    return lines, pieces()
 
 
-def wrong(program, file, pieces, most):
+def another_of_other_holders():
+    """Before each `copies` a worker alone in its rack dies, or returns with some of the splits."""
+    few = 16
+    join = " ".join(["join a", *SPLITS[:few]])
+    lines = [*head("xqr", ["ax", "bq", "cq", "dr"], "d"), *["die a", "copies", join, "copies"] * ROUNDS]
+    dead, live = orders("db"), orders(*["ab"] * few, "da")
+    return lines, (accepted(2 * at + 1) + dead + accepted(2 * at + 2) + live for at in range(ROUNDS))
+
+
+# How many bytes a program may have at its peak, and each kind of script: its lines, and the pieces of its report but
+# for the open splits.
+MOST = 60 * MEGABYTE
+ALL = {
+    "all copies the same": the_same,
+    "each copies to another worker": each_another,
+    "each copies another of one split": another_of_one_split,
+    "each copies another, of other holders": another_of_other_holders,
+}
+
+
+def wrong(program, file, pieces):
     """What is wrong with a report or with the memory that it takes, or None; and the peak."""
     with open(file, "rb") as text:
         starter = [sys.executable, "-I", "-S", "-c", STARTER, program, "play"]
@@ -74,7 +119,7 @@ def wrong(program, file, pieces, most):
     peak = int(resident) * 1024
     if not is_so or status != "1":
         return f"it ends with {status}" if is_so else "its report is another", peak
-    return (f"it takes more than {most} bytes" if peak > most else None), peak
+    return (f"it takes more than {MOST} bytes" if peak > MOST else None), peak
 
 
 def main(programs):
@@ -82,10 +127,10 @@ def main(programs):
     with tempfile.TemporaryDirectory() as room:
         file = Path(room) / "script"
         for program in programs:
-            for name, (make, most) in ALL.items():
-                commands, pieces = make()
-                file.write_text("\n".join([*HEAD, *commands, "end", ""]))
-                found, peak = wrong(program, file, pieces, most)
+            for name, make in ALL.items():
+                lines, pieces = make()
+                file.write_text("\n".join([*lines, "end", ""]))
+                found, peak = wrong(program, file, chain(pieces, [open_splits()]))
                 print(f"{program}: {name}: {peak / MEGABYTE:.1f} MB{f': FAILED: {found}' if found else ''}", flush=True)
                 passed, failed = passed + (found is None), failed + (found is not None)
     print(f"{passed} passed, {failed} failed")

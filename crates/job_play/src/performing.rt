@@ -49,7 +49,7 @@ pub fn perform(
     }
 }
 
-/// The same, in a report that keeps copies as their orders.
+/// The same, in a report that keeps of copies how their orders differ.
 pub(crate) fn perform_in_report(
     alloc: Global,
     master: &mut Master,

@@ -1,8 +1,9 @@
 //! The lines of a report: what a master answered, by names; and of what stands.
 //!
 //! Each call appends the lines of one answer to a text in memory; its contract says which bytes these are, by
-//! the words of `specs/Lines.antt`. A whole report has its copies as orders, and makes their lines as it is
-//! written (`specs/Reports.antt`). Names stand in tables by number, as a text declared them; a number past
+//! the words of `specs/Lines.antt`. A whole report keeps of each `copies` how its orders differ from those
+//! before (`specs/Routes.antt`, `specs/Turns.antt`), and makes their lines as it is written
+//! (`specs/Reports.antt`). Names stand in tables by number, as a text declared them; a number past
 //! the last has the empty name. After an error the text may hold a front of the lines; its owner drops it.
 //! Below stand the answers of `master_state` and the entries of an index.
 #![tactic(auto)]

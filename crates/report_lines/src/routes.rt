@@ -33,9 +33,9 @@ impl Routes {
         }
     }
 
-    /// The routes of these orders, if orders of their kind have routes: of splits below 1,024 by rising
-    /// number, between workers below 256. (A split that is not copied keeps its worker of before: it may be
-    /// copied from there again.)
+    /// The routes of these orders, if they have routes: orders of splits below 1,024, by rising number,
+    /// between workers below 256. (A caller compares what the routes tell. A split that is not copied keeps
+    /// its worker of before, from which it may be copied again.)
     pub(crate) fn of_orders(&self, orders: &[CopyOrder]) -> Routes {
         let mut routes = Routes {
             from: self.from,

@@ -19,9 +19,9 @@ use text_lines::WriteError;
 /// The orders of a `copies`.
 #[derive(Drop)]
 pub enum Orders {
-    /// What becomes of the routes, which tell them.
+    /// Those that the routes tell after these changes.
     Changed(Changes),
-    /// Orders that no routes tell.
+    /// Orders that have no routes.
     Whole(Vec<CopyOrder>),
 }
 
@@ -84,7 +84,12 @@ impl Turns {
     }
 
     // Adds a turn with the orders that the routes tell.
-    fn push_routes(&mut self, alloc: Global, before: String, next: &Routes) -> Result<(), AllocError>
+    fn push_routes(
+        &mut self,
+        alloc: Global,
+        before: String,
+        next: &Routes,
+    ) -> Result<(), AllocError>
         ensures { OnOk result (self.new ≡ self.old
             ++ record { before = string_bytes before; orders = orders_in next.now } ∷ []) }
     {

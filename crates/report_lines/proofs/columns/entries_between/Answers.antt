@@ -17,8 +17,8 @@ loop-i-preserved c =
     let entry : Entry = record { split = i; worker = slice_index_or next i 0 } in
     elim c.if-old-i.branch [
       | then-old-i+in_ok-push w ↦ rw w.entries-is (ap (fold with_entry old) w.in_ok-push.ensures.items
-      ∙ fold-append with_entry old c.loop-i.entries.items (entry ∷ [])
-      ∙ ap (λ column. with_entry column entry) c.loop-i.invariant
-      ∙ element_written old next i 0 in_old in_next)
+          ∙ fold-append with_entry old c.loop-i.entries.items (entry ∷ [])
+          ∙ ap (λ column. with_entry column entry) c.loop-i.invariant
+          ∙ element_written old next i 0 in_old in_next)
       | else-old-i w ↦ rw w.entries-is (c.loop-i.invariant ∙ element_kept old next i 0 in_old in_next w.if-old-i.false)
     ]
