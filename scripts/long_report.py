@@ -3,11 +3,11 @@
 
     long_report.py PROGRAM..
 
-In the first script all `copies` order the same. In the others each orders otherwise than the one before: to another
-worker, for each split; one split from another worker and to another one; or to another worker for most splits and from
-another one for some. A report keeps a byte for each split that is copied to another worker than before, and the most
-that a `copies` can keep of where to is 1 KiB. Each report is compared with what it is to be, byte by byte. The memory is what the program has at its peak. The last
-line is 'N passed, M failed'.
+In the first script all `copies` order the same. In the others each orders otherwise than the one before: each split
+goes to another worker; one split goes from another worker to another one; or most splits go to another worker, and some
+from another one. To which workers all splits go takes 1 KiB, the most that a death can change in a report's memory. Each
+report is compared with what it is to be, byte by byte. The memory is what the program has at its peak. The last line is
+'N passed, M failed'.
 """
 import re
 import subprocess
@@ -96,8 +96,8 @@ def another_of_other_holders():
     return lines, (accepted(2 * at + 1) + dead + accepted(2 * at + 2) + live for at in range(ROUNDS))
 
 
-# How many bytes a program may have at its peak, and each kind of script: its lines, and the pieces of its report but
-# for the open splits.
+# How many bytes a program may have at its peak, and each kind of script: its lines, and the pieces of its report up to
+# the open splits.
 MOST = 60 * MEGABYTE
 ALL = {
     "all copies the same": the_same,

@@ -3,7 +3,6 @@ use Rattle.std.proofs.Common.{◌≡◌, ℕ, zero, suc, ◌+◌, ◌<◌, List,
 use Rattle.std.proofs.Common.{refl, ap, sym, arith}
 use Rattle.std.specs.List.{flat_map}
 use Rattle.std.proofs.lemmas.Grind.{flat_map-append}
-use Rattle.block_map.specs.declared.CopyOrder.{CopyOrder}
 use Rattle.text_lines.specs.Texts.{Word}
 use Rattle.report_lines.specs.Lines.{copy_line}
 use Rattle.report_lines.specs.Routes.{orders_at}
@@ -14,7 +13,8 @@ use Rattle.report_lines.specs.Turns.{routes_after, routes_after_all, told, told_
 
 -- one turn more
 pub told_more : (routes : Routes) (turns : List Turn) (turn : Turn) →
-    told_from routes (turns ++ turn ∷ []) ≡ told_from routes turns ++ told (routes_after_all routes turns) turn ∷ []
+    told_from routes (turns ++ turn ∷ [])
+    ≡ told_from routes turns ++ told (routes_after_all routes turns) turn ∷ []
 told_more routes [] turn = refl
 told_more routes (first ∷ turns) turn =
     ap (λ (all : List ToldTurn). told routes first ∷ all) (told_more (routes_after routes first) turns turn)
@@ -46,4 +46,5 @@ pub flat_map_flat_map : {A B C : Type 0} (f : B → List C) (h : A → List B) (
     flat_map (λ x. flat_map f (h x)) xs ≡ flat_map f (flat_map h xs)
 flat_map_flat_map f h [] = refl
 flat_map_flat_map f h (x ∷ xs) =
-    ap (λ ys. flat_map f (h x) ++ ys) (flat_map_flat_map f h xs) ∙ sym (flat_map-append f (h x) (flat_map h xs))
+    ap (λ ys. flat_map f (h x) ++ ys) (flat_map_flat_map f h xs)
+    ∙ sym (flat_map-append f (h x) (flat_map h xs))

@@ -1,5 +1,5 @@
 -- Turns of a report whose orders are kept as changes.
-use Rattle.std.specs.Prelude.{ℕ, ◌≡◌, List, [], ◌∷◌, fold, string_bytes}
+use Rattle.std.specs.Prelude.{◌≡◌, List, [], ◌∷◌, fold, string_bytes}
 use Rattle.block_map.specs.declared.CopyOrder.{CopyOrder}
 use Rattle.report_lines.specs.declared.routes.Routes.{Routes}
 use Rattle.report_lines.specs.declared.turns.Orders.{Orders}

@@ -1,5 +1,5 @@
 //! A worker for each of 1,024 splits, and how these workers change from one `copies` to the next one.
-ghost use Rattle.std.specs.Prelude.{◌≡◌, ◌≤◌, IfOk, fold, length};
+ghost use Rattle.std.specs.Prelude.{◌≡◌, ◌≤◌, IfOk, fold};
 ghost use Rattle.report_lines.specs.Routes.{changed, with_entry};
 
 use std::alloc::{AllocError, Global};

@@ -1,5 +1,5 @@
 //! The copies that are ordered, as a table by split.
-ghost use Rattle.std.specs.Prelude.{◌≡◌, ◌<◌, ◌++◌, IfOk, OnOk, [], length};
+ghost use Rattle.std.specs.Prelude.{◌≡◌, ◌<◌, ◌++◌, IfOk, OnOk, length};
 ghost use Rattle.report_lines.specs.Routes.{after_changes, no_routes, order_at, orders_at, orders_in};
 
 use crate::columns::{Change, apply, change_between};

@@ -166,7 +166,8 @@ fn put_orders<W: Write>(
 ) -> Result<(), WriteError>
     ensures routes { OnOk result (routes.new ≡ routes_then routes.old orders.now) }
     ensures ok { OnOk result (Moves (W.contents writer.old) (W.contents writer.new)
-        (piece.old ++ flat_map (copy_line splits.now workers.now) (orders_told routes.old orders.now)) piece.new) }
+        (piece.old ++ flat_map (copy_line splits.now workers.now) (orders_told routes.old orders.now))
+        piece.new) }
     ensures err { OnErr result (AppendsFront (W.contents writer.old) (W.contents writer.new)
         (piece.old ++ flat_map (copy_line splits.now workers.now) (orders_told routes.old orders.now))) }
 {

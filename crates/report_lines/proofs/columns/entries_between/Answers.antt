@@ -20,5 +20,6 @@ loop-i-preserved c =
           ∙ fold-append with_entry old c.loop-i.entries.items (entry ∷ [])
           ∙ ap (λ column. with_entry column entry) c.loop-i.invariant
           ∙ element_written old next i 0 in_old in_next)
-      | else-old-i w ↦ rw w.entries-is (c.loop-i.invariant ∙ element_kept old next i 0 in_old in_next w.if-old-i.false)
+      | else-old-i w ↦ rw w.entries-is (c.loop-i.invariant
+          ∙ element_kept old next i 0 in_old in_next w.if-old-i.false)
     ]

@@ -12,9 +12,13 @@ pub returns : goal.returns
 returns c =
     let changes = c.in_ok-changes.changes in
     let turn : Turn = record { before = c.args.before; orders = Changed changes } in
-    let told : Routes → ToldTurn = λ routes. record { before = string_bytes c.args.before; orders = orders_in routes } in
+    let told : Routes → ToldTurn = λ routes. record {
+      before = string_bytes c.args.before;
+      orders = orders_in routes;
+    } in
     let next : after_changes (routes_after_all no_routes c.self.inside.turns.items) changes ≡ c.args.next.now =
-    ap (λ (routes : Routes). after_changes routes changes) (sym c.self.invariant) ∙ c.in_ok-changes.ensures in
+    ap (λ (routes : Routes). after_changes routes changes) (sym c.self.invariant)
+    ∙ c.in_ok-changes.ensures in
     ap (told_from no_routes) c.in_ok-push.ensures.items
     ∙ told_more no_routes c.self.inside.turns.items turn
     ∙ (λ k. c.self.view_is k ++ told (next k) ∷ [])

@@ -1,4 +1,5 @@
-use Rattle.std.proofs.Common.{◌≡◌, ◌++◌, ◌+◌, ◌<◌, ◌≤◌, ◌∙◌, ap, arith, get_or, length, rules, subst, sym, take, take_all}
+use Rattle.std.proofs.Common.{◌≡◌, ◌++◌, ◌+◌, ◌<◌, ◌≤◌, ◌∙◌, ap, arith, get_or, length, rules, subst, sym, take}
+use Rattle.std.proofs.Common.{take_all}
 use Rattle.std.specs.List.{flat_map}
 use Rattle.std.proofs.lemmas.List.{take_more}
 use Rattle.text_lines.specs.Streams.{AppendsFront, Moves}
@@ -50,7 +51,8 @@ returns-in_err-put_turn-clause-err g c =
     let front : AppendsFront old new (c.args.piece.now ++ flat_map line (take (place + 1) all)) =
     subst (AppendsFront old new) next
     (front_moved _ _ _ _ c.loop-turn.piece _ c.loop-turn.invariant.moved c.in_err-put_turn.ensures.err) in
-    let shown : all ≡ c.args.self.now = ap (told_from no_routes) c.deref-turn-items.ensures.value ∙ c.self.view_is in
+    let shown : all ≡ c.args.self.now =
+    ap (told_from no_routes) c.deref-turn-items.ensures.value ∙ c.self.view_is in
     on_err_of c.from_residual.result
     (subst (λ told. AppendsFront old new (c.args.piece.now ++ flat_map line told)) shown
     (front_of_first line c.args.piece.now all (place + 1) old new front))
@@ -64,6 +66,7 @@ returns-clause-ok g c =
     let all = told_from no_routes turns in
     let past : length all ≤ c.loop-turn.turn-index =
     omega (arith, c.loop-turn-test.false, length-told_from no_routes turns) in
-    let shown : all ≡ c.args.self.now = ap (told_from no_routes) c.deref-turn-items.ensures.value ∙ c.self.view_is in
+    let shown : all ≡ c.args.self.now =
+    ap (told_from no_routes) c.deref-turn-items.ensures.value ∙ c.self.view_is in
     subst (λ told. Moves old new (c.args.piece.now ++ flat_map line told) c.loop-turn.piece)
     (take_all c.loop-turn.turn-index all past ∙ shown) c.loop-turn.invariant.moved
