@@ -1,4 +1,4 @@
-use Rattle.std.proofs.Common.{◌≡◌, ◌++◌, ◌∷◌, [], ◌∙◌, List, ap, string_bytes}
+use Rattle.std.proofs.Common.{◌++◌, ◌∷◌, [], ◌∙◌, List, ap, string_bytes}
 use Rattle.report_lines.specs.declared.turns.Orders.TheVariants.{Whole}
 use Rattle.report_lines.specs.declared.turns.Turn.{Turn}
 use Rattle.report_lines.specs.Routes.{no_routes}
