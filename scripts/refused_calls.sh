@@ -30,15 +30,13 @@ take() { # EXAMPLE
 # Makes a job whose index is so long that threads make its lines, and takes it.
 take_long_index() {
     example=$room/long_index words=(run) wanted=0
-    awk 'BEGIN {
-        printf "job 1\nsilence 1000\nrack r\nworker a r 1\nsplit s 3 a\ndoc d s"
-        for (word = 10000; word < 15000; word++) printf " w%d", word
-        print "\nend"
-    }' > "$example.txt"
-    awk 'BEGIN {
-        print "index 5000"
-        for (word = 10000; word < 15000; word++) print "word w" word " d"
-    }' > "$example.out"
+    local word words_of_doc
+    words_of_doc=$(printf ' %s' {a..z}{a..t}{a..j})
+    printf 'job 1\nsilence 1000\nrack r\nworker a r 1\nsplit s 3 a\ndoc d s%s\nend\n' "$words_of_doc" > "$example.txt"
+    {
+        echo "index 5200"
+        for word in $words_of_doc; do echo "word $word d"; done
+    } > "$example.out"
 }
 
 # Runs the program with one call refused; the words that it says and its status are in $said, and in $met what met it.

@@ -10,26 +10,30 @@ use std::thread::Threads;
 const OPENING: &str =
     "job 1\nsilence 1000\nrack r\nworker a r 1\nworker b r 1\nsplit s 3 a\nsplit t 3 b\ndoc d s";
 
-// A word, whose number has five digits.
-fn push_word(rt: &impl Abort, alloc: Global, text: &mut String, number: u16) {
-    add_number(rt, alloc, text, " w", 10_000 + usize::from(number));
-}
-
 fn push(rt: &impl Abort, text: &mut String, words: &str) {
     text.push_str(words).expect(rt, "no memory");
 }
 
+// Adds a word of four letters, another one for each number below 26^4, in the order of the numbers.
+fn push_word(rt: &impl Abort, text: &mut String, number: u32) {
+    push(rt, text, " ");
+    for letter in [number / 17_576, number / 676, number / 26, number] {
+        text.push(char::from(b'a' + (letter % 26) as u8))
+            .expect(rt, "no memory");
+    }
+}
+
 // A job of two documents: the first has so many words, the second each third of them.
-fn job_text(rt: &impl Abort, alloc: Global, words: u16) -> String {
+fn job_text(rt: &impl Abort, alloc: Global, words: u32) -> String {
     let mut text = String::new(alloc);
     push(rt, &mut text, OPENING);
     for number in 0..words {
-        push_word(rt, alloc, &mut text, number);
+        push_word(rt, &mut text, number);
     }
     push(rt, &mut text, "\ndoc e t");
     for number in 0..words {
         if number % 3 == 0 {
-            push_word(rt, alloc, &mut text, number);
+            push_word(rt, &mut text, number);
         }
     }
     push(rt, &mut text, "\nend\n");
@@ -37,12 +41,12 @@ fn job_text(rt: &impl Abort, alloc: Global, words: u16) -> String {
 }
 
 // Its index.
-fn index_lines(rt: &impl Abort, alloc: Global, words: u16) -> String {
+fn index_lines(rt: &impl Abort, alloc: Global, words: u32) -> String {
     let mut lines = String::new(alloc);
-    add_number(rt, alloc, &mut lines, "index ", usize::from(words));
+    add_number(rt, alloc, &mut lines, "index ", words as usize);
     for number in 0..words {
         push(rt, &mut lines, "\nword");
-        push_word(rt, alloc, &mut lines, number);
+        push_word(rt, &mut lines, number);
         push(rt, &mut lines, if number % 3 == 0 { " d e" } else { " d" });
     }
     push(rt, &mut lines, "\n");
@@ -53,7 +57,7 @@ fn index_lines(rt: &impl Abort, alloc: Global, words: u16) -> String {
 fn writes_its_index<T: Threads + Wait + Clock + Abort + Sync>(
     rt: &T,
     alloc: Global,
-    words: u16,
+    words: u32,
 ) -> bool {
     let text = job_text(rt, alloc, words);
     let mut reader = text.as_bytes();
