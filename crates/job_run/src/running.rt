@@ -10,7 +10,8 @@ ghost use Rattle.job_play.specs.PlayAnswer.{AreEnds, cluster_in};
 ghost use Rattle.job_run.specs.RunAnswer.{HasTextsNamed, IsToldAs, RunAnswer, TellsEnd, TellsJob, TellsRun, done_lines};
 ghost use Rattle.job_run.specs.RunAnswer.{job_in, ran_as, setup_on};
 
-use crate::index_text::{STACK_BYTES, index_text};
+use crate::index_text::index_text;
+use crate::letting_go::let_go;
 use command_runner::ToolError;
 use job_play::clusters::cluster_of;
 use job_play::ending::add_open;
@@ -23,10 +24,8 @@ use script_text::{Head, Names, Script, ScriptText, read_job};
 use shuffle_reduce::Index;
 use std::alloc::{AllocError, Global};
 use std::io::{Read, Write};
-use std::mem::drop;
 use std::rt::Clock;
 use std::sync::Wait;
-use std::thread;
 use std::thread::Threads;
 use text_lines::{TextFault, read_text, write_text};
 
@@ -307,8 +306,7 @@ fn ending_of<T: Threads + Wait>(
     }
 }
 
-// The lines of an index. The master has as many pieces of memory as its maps have words, so it is let go in a
-// thread of its own, where one can be started.
+// The lines of an index, while what the master has is let go.
 fn index_beside<T: Threads + Wait>(
     rt: &T,
     alloc: Global,
@@ -318,11 +316,8 @@ fn index_beside<T: Threads + Wait>(
 ) -> Result<String, AllocError>
     ensures { IfOk result (λ lines. string_bytes lines ≡ index_lines names.now.documents index.now) }
 {
-    let builder = thread::Builder::new().stack_size(STACK_BYTES);
-    let aside = builder.spawn(rt, move || drop(master));
+    let going = let_go(rt, alloc, master);
     let lines = index_text(rt, alloc, &names.documents, index.entries());
-    if let Ok(thread) = aside {
-        thread.join(rt);
-    }
+    going.join(rt);
     lines
 }

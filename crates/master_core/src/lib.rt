@@ -14,6 +14,7 @@ mod kept;
 mod kept_plan;
 mod lists;
 pub mod master;
+mod piles;
 mod reducing;
 
 pub use cluster::{Cluster, ClusterError};
@@ -23,3 +24,4 @@ pub use master_state::{
     Answer, Attempt, CommitError, Event, Glance, Limits, PartState, Reply, SplitState, Start,
     Swept, Wave, Why, Work,
 };
+pub use piles::Piles;

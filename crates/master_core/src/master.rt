@@ -112,6 +112,24 @@ impl Master {
         let _limits = self.limits;
     }
 
+    // The results of its maps and its reduces.
+    pub(crate) fn into_results(self) -> (Vec<SplitEntry>, Vec<PartResult>) {
+        let Master {
+            cluster: _,
+            limits: _,
+            workers: _,
+            holders: _,
+            splits,
+            parts: _,
+            results,
+            starts: _,
+            sweeps: _,
+            history: _,
+            engine: _,
+        } = self;
+        (splits, results)
+    }
+
     // Where the attempt runs.
     fn find(&self, attempt: AttemptNo) -> Found
         ensures { IsFound self.now.state attempt result }
