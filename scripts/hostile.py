@@ -120,7 +120,7 @@ ALL = [
     Hostile("a fault behind sweeps", "play", 1, late(WIDE_SCRIPT, commands(SWEEP)), 6, 130),
     Hostile("a fault behind joins", "play", 1, late(WIDE_SCRIPT, commands(JOIN)), 4, 185),
     Hostile("a fault behind commands", "play", 1, late(SCRIPT, commands("done 1000000")), 8, 150),
-    Hostile("a fault behind barred pairs", "plan", 1, late(WIDE, barred_pairs), 45, 400),
+    Hostile("a fault behind barred pairs", "plan", 1, late(WIDE, barred_pairs), 18, 130),
     Hostile("a fault behind documents", "run", 1, late(JOB, documents), 15, 30),
 ]
 

@@ -17,9 +17,10 @@ use Rattle.line_shapes.specs.Lines.{Statement}
 use Rattle.line_shapes.specs.declared.keyword.Keyword.{Keyword}
 use Rattle.line_rules.specs.Entering.{Key, key_of}
 use Rattle.line_rules.specs.Known.{HasNumber, HasRow, keys_of, rows_of}
-use Rattle.line_rules.specs.Rows.{AreTabled, Firsts, HasKeyMore, IsKeyAt, IsNewKey, IsRowAt, IsTabled, Others}
+use Rattle.line_rules.specs.Rows.{AreTabled, Bars, Firsts, HasKeyMore, HaveWords, IsBarred, IsKeyAt, IsNewKey}
+use Rattle.line_rules.specs.Rows.{IsRowAt, IsTabled, Others}
 use Rattle.line_rules.specs.Rows.{TextKey, first_by, key_in, other_by, same_key}
-use Rattle.line_rules.proofs.OfKeyword.{numbered_more, numbered_there, there_numbered}
+use Rattle.line_rules.proofs.OfKeyword.{numbered_there, there_numbered}
 
 -- ---- keys
 
@@ -51,15 +52,15 @@ module _ {K X : Type 0} (test : K → Bool) (e : K × X) where
         | false ↦ found_more es
       ]
 
-  found_kept : (es : List (K × X)) (x : X) → lookup test es ≡ Some x → lookup test (es ++ e ∷ []) ≡ Some x
+  pub found_kept : (es : List (K × X)) (x : X) → lookup test es ≡ Some x → lookup test (es ++ e ∷ []) ≡ Some x
   found_kept es x is = found_more es ∙ ap (or_last (test e.0)) is
 
-  found_last : (es : List (K × X)) → lookup test es ≡ None → test e.0 ≡ true
+  pub found_last : (es : List (K × X)) → lookup test es ≡ None → test e.0 ≡ true
       → lookup test (es ++ e ∷ []) ≡ Some e.1
   found_last es none passes =
       found_more es ∙ ap (or_last (test e.0)) none ∙ ap (λ b. cond b (Some e.1) None) passes
 
-  found_cases : (es : List (K × X)) (x : X) → lookup test (es ++ e ∷ []) ≡ Some x
+  pub found_cases : (es : List (K × X)) (x : X) → lookup test (es ++ e ∷ []) ≡ Some x
       → (lookup test es ≡ Some x) ⊎ ((test e.0 ≡ true) × (x ≡ e.1))
   found_cases es x is = by (lookup test es) (test e.0) refl refl (sym (found_more es) ∙ is)
     where
@@ -69,7 +70,7 @@ module _ {K X : Type 0} (test : K → Bool) (e : K × X) where
       by None true old passes is = inr (passes, sym (same_Some _ _ is))
       by None false old passes is = absurd (none-some x is)
 
-some_of : {X : Type 0} (o : Option X) → IsSome o → (x : X) × (o ≡ Some x)
+pub some_of : {X : Type 0} (o : Option X) → IsSome o → (x : X) × (o ≡ Some x)
 some_of None some = absurd (true≢false (sym some))
 some_of (Some x) some = (x, refl)
 
@@ -205,32 +206,9 @@ key_put_other firsts others new key n grown none word =
 -- ---- both tables
 
 -- what one more element is to what the elements show
-pushed : {X Y : Type 0} (f : X → Y) (xs : List X) (x : X) (q : Y) → Contains (map f (xs ++ x ∷ [])) q
+pub pushed : {X Y : Type 0} (f : X → Y) (xs : List X) (x : X) (q : Y) → Contains (map f (xs ++ x ∷ [])) q
     → Contains (map f xs) q ⊎ (f x ≡ q)
 pushed f xs x q h = Contains-push_cases (map f xs) (f x) q (subst (λ l. Contains l q) (map_push f xs x) h)
-
--- one row more, whose key they have
-pub tabled_more : (rows : List Statement) (s : Statement) (firsts new : Firsts) (others new_others : Others)
-    → AreTabled rows firsts others
-    → HasKeyMore firsts others (key_of s) (length (rows_of s.keyword rows)) new new_others
-    → AreTabled (rows ++ s ∷ []) new new_others
-tabled_more rows s firsts new others new_others tabled more = record {
-  keys = λ q m. (
-    λ h. (more.keys q m).1 (elim ((numbered_more rows s q m).0 h) [
-      | inl old ↦ inl ((tabled.keys q m).0 old)
-      | inr same ↦ inr same
-    ]),
-    λ h. (numbered_more rows s q m).1 (elim ((more.keys q m).0 h) [
-      | inl old ↦ inl ((tabled.keys q m).1 old)
-      | inr same ↦ inr same
-    ]),
-  );
-  words = λ k word h. elim (pushed key_of rows s (k, word, []) h) [
-    | inl old ↦ more.kept word (tabled.words k word old)
-    | inr same ↦ subst (λ (w : Word). IsSome (first_by new w)) (ap (λ (q : Key). q.1) same)
-        (more.word (ap (λ (q : Key). q.2) same))
-  ];
-}
 
 pub none_has : (rows : List Statement) (key : Key) (o : Option ℕ) → o ≡ None
     → (Contains (keys_of rows) key → ⊥) → MatchOption o (Contains (keys_of rows) key → ⊥) (HasNumber rows key)
@@ -244,17 +222,26 @@ pub has_key : (rows : List Statement) (key : Key) (o : Option ℕ) (b : Bool)
 has_key rows key None b none is = (λ t. absurd (true≢false (sym t ∙ is)), λ h. absurd (none h))
 has_key rows key (Some n) b some is = (λ t. numbered_there rows key n some, λ h. is)
 
-module _ (rows : List Statement) (firsts : Firsts) (others : Others)
-    (tabled : AreTabled rows firsts others) where
+module _ (rows : List Statement) (firsts : Firsts) (others : Others) (bars : Bars)
+    (tabled : AreTabled rows firsts others bars) where
   -- a key that no row has is in no table
   pub key_new : (key : Key) → (Contains (keys_of rows) key → ⊥) → IsNewKey firsts others key
-  key_new key absent n h = absent (numbered_there rows key n ((tabled.keys key n).1 h))
+  key_new key absent n h = absent (numbered_there rows key n ((tabled.keys key n).1 (inl h)))
 
   -- a key that is in no table is that of no row
-  pub key_absent : (key : Key) → IsNewKey firsts others key → Contains (keys_of rows) key → ⊥
-  key_absent key new h =
+  pub key_absent : (key : Key) → IsNewKey firsts others key → ((n : ℕ) → IsBarred rows bars key n → ⊥)
+      → Contains (keys_of rows) key → ⊥
+  key_absent key new not_barred h =
       let own = there_numbered rows key h in
-      new own.0 ((tabled.keys key own.0).0 own.1)
+      elim ((tabled.keys key own.0).0 own.1) [
+        | inl there ↦ new own.0 there
+        | inr barred ↦ not_barred own.0 barred
+      ]
+
+  pub have_words : HaveWords firsts others
+  have_words k word n there =
+      tabled.words k word (numbered_there rows (k, word, []) n
+      ((tabled.keys (k, word, []) n).1 (inl (inr there))))
 
   -- a word that the first table lacks
   pub found_none : (key : Key) → key.2 ≡ [] → first_by firsts key.1 ≡ None → Contains (keys_of rows) key → ⊥
@@ -269,6 +256,6 @@ module _ (rows : List Statement) (firsts : Firsts) (others : Others)
     λ t.
         let some = some_of (first_by firsts word) (sym is ∙ t) in
         let key : Key = (some.0.0, word, []) in
-        (some.0.0, numbered_there rows key some.0.1 ((tabled.keys key some.0.1).1 (inl (refl, some.1)))),
+        (some.0.0, numbered_there rows key some.0.1 ((tabled.keys key some.0.1).1 (inl (inl (refl, some.1))))),
     λ (k, h). is ∙ tabled.words k word h,
   )

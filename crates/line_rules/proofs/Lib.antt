@@ -2,6 +2,9 @@ pub mod OfKeyword
 pub mod Placed
 pub mod Listed
 pub mod Keyed
+pub mod Barred
+pub mod Put
+pub mod Paired
 pub mod Kept
 pub mod Fits
 pub mod Steps

@@ -73,7 +73,7 @@ rows_pushed k rows s b is =
 
 -- ---- the row of a key
 
-abbrev no_row : Keyword → Statement
+abbrev pub no_row : Keyword → Statement
 no_row k = record { keyword = k; words = [] }
 
 pub numbered_there : (rows : List Statement) (key : Key) (n : ℕ) → HasNumber rows key n

@@ -8,8 +8,7 @@ use Rattle.std.specs.Prelude.{◌≤◌, MatchOption, Option, Some, None}
 use Rattle.std.proofs.lemmas.List.{get_or-map, get_or-set_other, get_or-set_same, get_or_append_left}
 use Rattle.std.proofs.lemmas.List.{get_or_push, length-map, length-set, map-append}
 use Rattle.std.proofs.lemmas.List.Elements.{All-append, All-cons, All-head, All-nil, All-tail, All-weaker}
-use Rattle.line_shapes.specs.Lines.{Statement, statement_of}
-use Rattle.line_shapes.specs.declared.line.KeyedLine.{KeyedLine}
+use Rattle.line_shapes.specs.Lines.{Statement}
 use Rattle.line_shapes.specs.contracts.keyword.Keyword.{the_type}
 use Rattle.line_shapes.specs.declared.keyword.Keyword.{Keyword}
 use Rattle.line_shapes.specs.declared.keyword.Keyword.TheVariants.{Problem}
@@ -50,16 +49,16 @@ module _ (rows : List Statement) (lists : List (List ℕ)) (placed : ArePlaced r
       ∙ ap (λ q. get_or rows q d) (sym is) ∙ there d
 
   -- a lookup gives the line of a row, or nothing where there is no such row
-  pub row_found : (n p : ℕ) → n < length (places_of lists k) → p ≡ get_or (places_of lists k) n p
-      → (o : Option KeyedLine)
-      → MatchOption o (length rows ≤ p) (λ l. (p < length rows) × IsRowAt rows p (statement_of l))
+  pub row_found : {X : Type 0} (said : X → Statement) (n p : ℕ) → n < length (places_of lists k)
+      → p ≡ get_or (places_of lists k) n p → (o : Option X)
+      → MatchOption o (length rows ≤ p) (λ x. (p < length rows) × IsRowAt rows p (said x))
       → MatchOption o (length (rows_of k rows) ≤ n)
-      (λ l. (n < length (rows_of k rows)) × IsRowAt (rows_of k rows) n (statement_of l))
-  row_found n p lt is None past =
+      (λ x. (n < length (rows_of k rows)) × IsRowAt (rows_of k rows) n (said x))
+  row_found said n p lt is None past =
       let inside : p < length rows = subst (λ q. q < length rows) (sym is) (placed.inside k n p lt) in
       absurd (let past : length rows ≤ p = past in omega (arith, inside, past))
-  row_found n p lt is (Some l) there =
-      (omega (arith, count_placed, lt), row_placed n p (statement_of l) lt is there.1)
+  row_found said n p lt is (Some x) there =
+      (omega (arith, count_placed, lt), row_placed n p (said x) lt is there.1)
 
 -- ---- one row more
 

@@ -1,11 +1,13 @@
-ghost use Rattle.std.specs.Prelude.{◌≡◌, ◌<◌, List, IsTrue, length, slice_get};
+ghost use Rattle.std.specs.Prelude.{◌≡◌, ◌<◌, List, IfSome, IsSome, IsTrue, length, slice_get};
 ghost use Rattle.text_lines.specs.Texts.{Word};
 ghost use Rattle.line_shapes.specs.Lines.{HasTailApart, Statement, stated};
 ghost use Rattle.line_shapes.specs.Places.{or_more};
-ghost use Rattle.line_shapes.specs.declared.keyword.Keyword.TheVariants.{Join};
+ghost use Rattle.line_shapes.specs.declared.keyword.Keyword.TheVariants.{Barred, Join};
 ghost use Rattle.line_rules.specs.Entered.{AreFit, IsFitIn};
 ghost use Rattle.line_rules.specs.Known.{HasRow, IsDeclared, IsTaken};
 ghost use Rattle.line_rules.specs.Names.{IsNameOf};
+ghost use Rattle.line_rules.specs.Rows.{IsBarOf, bar_said};
+ghost use Rattle.line_rules.specs.declared.edition.Version.{Version};
 
 use crate::edition::{Version, is_name_of};
 use crate::rows::Rows;
@@ -65,6 +67,45 @@ fn place_among(places: &[Place], more: Option<Place>, number: usize) -> Option<P
         Some(place) => Some(*place),
         None => more,
     }
+}
+
+/// The numbers of the split and the worker whose pair a line of this keyword and these two words bars. Where
+/// it has some, its words are fit.
+#[inline(always)]
+pub fn bar_of(rows: &Rows<'_>, keyword: Keyword, words: &[&str]) -> Option<(u32, u32)>
+    ensures bar { IfSome result (IsBarOf rows.now (stated keyword words.now)) }
+    ensures fit { IsSome result → (version : Version) → AreFit version rows.now (stated keyword words.now) }
+{
+    match keyword {
+        Keyword::Barred => named_pair(rows, words),
+        _ => None,
+    }
+}
+
+#[inline(always)]
+fn named_pair(rows: &Rows<'_>, words: &[&str]) -> Option<(u32, u32)>
+    ensures bar { IfSome result (IsBarOf rows.now (stated Barred words.now)) }
+    ensures fit { IsSome result → (version : Version) → AreFit version rows.now (stated Barred words.now) }
+{
+    if words.len() == 2 {
+        pair_of(rows, words[0], words[1])
+    } else {
+        None
+    }
+}
+
+// The numbers of the split and the worker that have these names.
+fn pair_of(rows: &Rows<'_>, first: &str, second: &str) -> Option<(u32, u32)>
+    ensures bar { IfSome result (IsBarOf rows.now (bar_said first.now second.now)) }
+    ensures fit { IsSome result → (version : Version)
+        → AreFit version rows.now (bar_said first.now second.now) }
+{
+    if first.is_empty() || second.is_empty() {
+        return None;
+    }
+    let split = rows.first_of(Keyword::Split, first)?;
+    let worker = rows.first_of(Keyword::Worker, second)?;
+    Some((split, worker))
 }
 
 /// Whether the word is fit for this place in a text of the version.

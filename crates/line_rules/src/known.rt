@@ -1,5 +1,5 @@
-ghost use Rattle.std.specs.Prelude.{◌≡◌, ◌≢◌, ◌++◌, ◌≤◌, ◌↔◌, IfOk, IsTrue, MatchOption, OnErr, OnOk, Some};
-ghost use Rattle.std.specs.Prelude.{length, slice_index_or, ◌<◌, []};
+ghost use Rattle.std.specs.Prelude.{◌≡◌, ◌≢◌, ◌++◌, ◌≤◌, ◌↔◌, IfOk, IfSome, IsTrue, MatchOption, OnErr, OnOk};
+ghost use Rattle.std.specs.Prelude.{Some, length, slice_index_or, ◌<◌, []};
 ghost use Rattle.text_lines.specs.Texts.{number_of, IsNumber};
 ghost use Rattle.line_shapes.specs.Lines.{statement_of, HasTailApart, IsInRange, Statement, words_after};
 ghost use Rattle.line_shapes.specs.Places.{places_of};
@@ -7,15 +7,16 @@ ghost use Rattle.line_rules.specs.Entering.{command_of, entered_of, entering_of 
 ghost use Rattle.line_rules.specs.Entering.{most_of as most_in};
 ghost use Rattle.line_rules.specs.Faults.{IsFirst, centres_in as centres, Fails, IsFewer, IsFit, IsLeastOf};
 ghost use Rattle.line_rules.specs.Faults.{AreInRange, IsOfSize, most_bytes, most_slots};
-ghost use Rattle.line_rules.specs.Faults.{IsNew, IsFirstOfBody, IsPricedBefore, IsComplete};
+ghost use Rattle.line_rules.specs.Faults.{IsNew, IsFirstOfBody, IsFirstOfHead, IsPricedBefore, IsComplete};
 ghost use Rattle.line_rules.specs.Faults.{Keep, IsWithinLimit, MayStand, counted_of};
 ghost use Rattle.line_rules.specs.declared.entering.Entering.TheVariants.{Nothing};
 ghost use Rattle.text_lines.specs.declared.fault.Fault.{Fault};
 ghost use Rattle.line_rules.specs.Entered.{AreFit, IsSoundBefore};
 ghost use Rattle.line_rules.specs.Known.{Known, entered, known_at};
 ghost use Rattle.line_rules.specs.Names.{IsNamed};
+ghost use Rattle.line_rules.specs.Rows.{IsBarOf};
 ghost use Rattle.line_shapes.specs.declared.keyword.Keyword.{Keyword};
-ghost use Rattle.line_rules.specs.Sections.{section_of as section_in};
+ghost use Rattle.line_rules.specs.Sections.{section_after as after, section_of as section_in};
 ghost use Rattle.line_rules.specs.declared.rule.Rule.TheVariants as rule;
 ghost use Rattle.line_rules.specs.declared.section.Section.TheVariants.{Body};
 
@@ -27,7 +28,7 @@ use crate::rows::Rows;
 use crate::rule::Rule;
 use crate::rules::{
     are_priced, is_command, is_entered_by_new_name, is_few, is_first_of_body, is_first_of_head,
-    keep,
+    keep, word_at,
 };
 use crate::section::{Section, section_after, section_of};
 use line_shapes::{KeyedLine, Keyword, is_within};
@@ -171,14 +172,14 @@ impl<'t> KnownLines<'t> {
         }
     }
 
-    fn is_new(&self, fit: bool, line: &KeyedLine<'_, '_>) -> bool
+    fn is_new(&self, fit: bool, bar: Option<(u32, u32)>, line: &KeyedLine<'_, '_>) -> bool
         requires places { length (places_of line.now.keyword) ≤ length line.now.words.now }
         requires fit { IsTrue fit → AreFit self.now.version self.now.rows (statement_of line.now) }
+        requires bar { IfSome bar (IsBarOf self.now.rows (statement_of line.now)) }
         ensures { IsTrue result ↔ IsNew self.now.rows (statement_of line.now) }
     {
         keeps(fit, Rule::Free, &self.rows, line)
-            && (is_entered_by_new_name(line.keyword)
-                || is_first_of_head(section_after(line.keyword), &self.rows, line))
+            && (is_entered_by_new_name(line.keyword) || is_first_in_head(&self.rows, bar, line))
     }
 
     fn is_in_range(&self, fit: bool, line: &KeyedLine<'_, '_>) -> bool
@@ -227,11 +228,19 @@ impl<'t> KnownLines<'t> {
     }
 
     /// The least fault of a line after these, if it has one. `fit` says that its words are known to be fit, and
-    /// `apart` that no name is known to stand twice where it may not.
-    pub fn fault_of(&self, fit: bool, apart: bool, line: &KeyedLine<'_, '_>) -> Option<Fault>
+    /// `apart` that no name is known to stand twice where it may not; `bar` are the numbers of the pair that it
+    /// bars, where they are known.
+    pub fn fault_of(
+        &self,
+        fit: bool,
+        apart: bool,
+        bar: Option<(u32, u32)>,
+        line: &KeyedLine<'_, '_>,
+    ) -> Option<Fault>
         requires places { length (places_of line.now.keyword) ≤ length line.now.words.now }
         requires fit { IsTrue fit → AreFit self.now.version self.now.rows (statement_of line.now) }
         requires apart { IsTrue apart → HasTailApart (statement_of line.now) }
+        requires bar { IfSome bar (IsBarOf self.now.rows (statement_of line.now)) }
         ensures { MatchOption result (IsFit self.now (statement_of line.now))
             (IsLeastOf (Fails self.now (statement_of line.now))) }
     {
@@ -244,7 +253,7 @@ impl<'t> KnownLines<'t> {
             Some(Fault::Misnamed)
         } else if !keeps(fit, Rule::Declared, &self.rows, line) {
             Some(Fault::Unknown)
-        } else if !self.is_new(fit, line) {
+        } else if !self.is_new(fit, bar, line) {
             Some(Fault::Repeated)
         } else if !self.is_in_range(fit, line) {
             Some(Fault::OutOfRange)
@@ -261,21 +270,45 @@ impl<'t> KnownLines<'t> {
         }
     }
 
-    /// Takes one line more; `rest` is what follows the space after its keyword. After an error it was not taken.
+    /// Takes one line more; `rest` is what follows the space after its keyword, and `bar` are the numbers of the
+    /// pair that it bars, where they are known. After an error it was not taken.
     pub fn enter(
         &mut self,
         line: &KeyedLine<'_, 't>,
         rest: Option<&'t str>,
+        bar: Option<(u32, u32)>,
     ) -> Result<(), AllocError>
         requires fit { IsFit self.old (statement_of line.now) }
         requires rest { (statement_of line.now).words ≡ words_after line.now.keyword rest }
+        requires bar { IfSome bar (IsBarOf self.old.rows (statement_of line.now)) }
         ensures ok { OnOk result (self.new ≡ entered self.old (statement_of line.now)) }
         ensures err { OnErr result (self.new ≡ self.old) }
     {
-        put(line, rest, &mut self.rows, &mut self.commands)?;
+        put(line, rest, bar, &mut self.rows, &mut self.commands)?;
         self.version = version_after(self.version, line);
         self.section = section_after(line.keyword);
         Ok(())
+    }
+}
+
+// Whether a line that declares something does so for the first time, as one does that bars a new pair.
+#[inline(always)]
+fn is_first_in_head(rows: &Rows<'_>, bar: Option<(u32, u32)>, line: &KeyedLine<'_, '_>) -> bool
+    requires { IfSome bar (IsBarOf rows.now (statement_of line.now)) }
+    ensures { IsTrue result ↔ IsFirstOfHead (after line.now.keyword) rows.now (statement_of line.now) }
+{
+    is_new_bar(rows, bar, line) || is_first_of_head(section_after(line.keyword), rows, line)
+}
+
+// Whether the numbers of the pair that a line bars are known, and no line before bars the pair.
+#[inline(always)]
+fn is_new_bar(rows: &Rows<'_>, bar: Option<(u32, u32)>, line: &KeyedLine<'_, '_>) -> bool
+    requires { IfSome bar (IsBarOf rows.now (statement_of line.now)) }
+    ensures { IsTrue result → IsFirst rows.now (statement_of line.now) }
+{
+    match bar {
+        Some(bar) => rows.is_new_bar(bar, word_at(line.words, 0), word_at(line.words, 1)),
+        None => false,
     }
 }
 
@@ -363,17 +396,21 @@ fn is_at_most(line: &KeyedLine<'_, '_>, place: usize, most: u64) -> bool
 fn put<'t>(
     line: &KeyedLine<'_, 't>,
     rest: Option<&'t str>,
+    bar: Option<(u32, u32)>,
     rows: &mut Rows<'t>,
     commands: &mut CommandList<'t>,
 ) -> Result<(), AllocError>
     requires first { entering line.now.keyword ≢ Nothing → IsFirst rows.old (statement_of line.now) }
     requires rest { (statement_of line.now).words ≡ words_after line.now.keyword rest }
+    requires bar { IfSome bar (IsBarOf rows.old (statement_of line.now)) }
     ensures rows { OnOk result (rows.new ≡ rows.old ++ entered_of (statement_of line.now)) }
     ensures commands { OnOk result (commands.new ≡ commands.old ++ command_of (statement_of line.now)) }
     ensures err { OnErr result ((rows.new ≡ rows.old) × (commands.new ≡ commands.old)) }
 {
     match entering_of(line.keyword) {
         Entering::InTurn => commands.push(line, rest),
-        Entering::Nothing | Entering::Alone | Entering::Word | Entering::Pair => rows.enter(line),
+        Entering::Nothing | Entering::Alone | Entering::Word | Entering::Pair => {
+            rows.enter(line, bar)
+        }
     }
 }

@@ -5,7 +5,8 @@
 //! (`specs/Names.antt`), by which words a line is entered, and how many such lines there may be
 //! (`specs/Entering.antt`). What a line says, a keyword and its words, is a statement
 //! (`KeyedLine`), and a statement that is entered is a row. `Rows` finds a row by its keyword and its number
-//! among the rows of that keyword, and the number by the words by which the row was entered. `KnownLines`
+//! among the rows of that keyword, and the number by the words by which the row was entered. It keeps a
+//! barred pair by the numbers of its split and its worker, since a text may bar each of their pairs. `KnownLines`
 //! holds the rows and answers the least fault of the next line. Each fault is one definition over the places
 //! of a line (`specs/Faults.antt`) and one test in the code. `fit_line` reads one line more and enters
 //! nothing. `read_lines` reads and enters all lines of a text, or answers its least fault
@@ -38,6 +39,6 @@ pub use line_list::LineList;
 pub use line_reader::{LineError, ReadingError, read_lines};
 pub use one_line::fit_line;
 pub use purpose::Purpose;
-pub use rows::Rows;
+pub use rows::{Row, Rows};
 pub use rule::Rule;
 pub use section::Section;

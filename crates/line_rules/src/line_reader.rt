@@ -112,8 +112,8 @@ fn take_line<'t>(
     ensures err { IfErr result (IsLeastError (LineHas known.old line.entry.now)) }
     ensures memory { result ≡ Err LineError.Memory → HasKeyword known.old line.entry.now }
 {
-    let (said, rest) = fit_line_in(words, printable, line, known)?;
-    known.enter(&said, rest)?;
+    let fit = fit_line_in(words, printable, line, known)?;
+    known.enter(&fit.line, fit.rest, fit.bar)?;
     Ok(())
 }
 

@@ -1,14 +1,17 @@
-ghost use Rattle.std.specs.Prelude.{◌≡◌, All, Err, IfErr, IfOk, IsTrue, MatchOption, map};
+ghost use Rattle.std.specs.Prelude.{◌≡◌, All, Err, IfErr, IfOk, IfSome, IsSome, IsTrue, MatchOption, map};
 ghost use Rattle.text_lines.specs.Texts.{IsPrintable};
 ghost use Rattle.line_shapes.specs.Demands.{Meet};
 ghost use Rattle.line_shapes.specs.Lines.{IsShaped, stated, statement_of, words_after};
 ghost use Rattle.line_shapes.specs.declared.demand.Demand.TheVariants.{Shape};
 ghost use Rattle.line_rules.specs.Faults.{IsFit, IsLeastOf};
 ghost use Rattle.line_rules.specs.Long.{WordsHave};
+ghost use Rattle.line_rules.specs.Entered.{AreFit};
+ghost use Rattle.line_rules.specs.Rows.{IsBarOf};
+ghost use Rattle.line_rules.specs.declared.edition.Version.{Version};
 ghost use Rattle.line_rules.specs.Reading.{HasKeyword, IsFitLine, IsLeastError};
 ghost use Rattle.line_rules.specs.Texts.{LineHas};
 
-use crate::fit::{are_fit, are_fit_splits};
+use crate::fit::{are_fit, are_fit_splits, bar_of};
 use crate::known::KnownLines;
 use crate::line_reader::{LineError, is_ended};
 use crate::long::cut_most;
@@ -26,22 +29,33 @@ pub fn fit_line<'w, 'l>(
     ensures err { IfErr result (IsLeastError (LineHas known.now line.entry.now)) }
     ensures memory { result ≡ Err LineError.Memory → HasKeyword known.now line.entry.now }
 {
-    let (said, _) = fit_line_in(words, false, line, known)?;
-    Ok(said)
+    let fit = fit_line_in(words, false, line, known)?;
+    Ok(fit.line)
 }
 
-// The same, and what follows the space after the keyword. `printable` says that all bytes of the line are known to
-// be printable.
+/// A line that is fit: what it says, what follows the space after its keyword, and the numbers of the pair that
+/// it bars, where they are known.
+#[derive(Clone, Copy)]
+pub(crate) struct FitLine<'w, 'l> {
+    pub line: KeyedLine<'w, 'l>,
+    pub rest: Option<&'l str>,
+    pub bar: Option<(u32, u32)>,
+}
+
+// The same, with what else is known of the line. `printable` says that all bytes of the line are known to be
+// printable.
 #[inline(always)]
 pub(crate) fn fit_line_in<'w, 'l>(
     words: &'w mut Vec<&'l str>,
     printable: bool,
     line: &'l [u8],
     known: &KnownLines<'_>,
-) -> Result<(KeyedLine<'w, 'l>, Option<&'l str>), LineError>
+) -> Result<FitLine<'w, 'l>, LineError>
     requires { IsTrue printable → All IsPrintable line.now }
-    ensures ok { IfOk result (λ said. IsFitLine known.now line.entry.now (statement_of said.0)) }
-    ensures rest { IfOk result (λ said. (statement_of said.0).words ≡ words_after said.0.keyword said.1) }
+    ensures ok { IfOk result (λ fit. IsFitLine known.now line.entry.now (statement_of fit.line)) }
+    ensures rest { IfOk result (λ fit.
+        (statement_of fit.line).words ≡ words_after fit.line.keyword fit.rest) }
+    ensures bar { IfOk result (λ fit. IfSome fit.bar (IsBarOf known.now.rows (statement_of fit.line))) }
     ensures err { IfErr result (IsLeastError (LineHas known.now line.entry.now)) }
     ensures memory { result ≡ Err LineError.Memory → HasKeyword known.now line.entry.now }
 {
@@ -56,31 +70,49 @@ pub(crate) fn fit_line_in<'w, 'l>(
     };
     cut_most(known, keyword, rest, words)?;
     match fit_words(keyword, words.as_slice(), known) {
-        Ok(said) => Ok((said, rest)),
+        Ok((line, bar)) => Ok(FitLine { line, rest, bar }),
         Err(fault) => Err(LineError::Fault(fault)),
     }
 }
 
-// What these words say after the keyword, or the least fault. Most words are found fit at once.
+// What these words say after the keyword, with the numbers of the pair that they bar, where these are known; or
+// the least fault. Most words are found fit at once.
 fn fit_words<'w, 'l>(
     keyword: Keyword,
     words: &'w [&'l str],
     known: &KnownLines<'_>,
-) -> Result<KeyedLine<'w, 'l>, Fault>
-    ensures said { IfOk result (λ line. statement_of line ≡ stated keyword words.entry.now) }
-    ensures shaped { IfOk result (λ line. IsShaped (statement_of line)) }
-    ensures fit { IfOk result (λ line. IsFit known.now (statement_of line)) }
+) -> Result<(KeyedLine<'w, 'l>, Option<(u32, u32)>), Fault>
+    ensures said { IfOk result (λ said. statement_of said.0 ≡ stated keyword words.entry.now) }
+    ensures shaped { IfOk result (λ said. IsShaped (statement_of said.0)) }
+    ensures fit { IfOk result (λ said. IsFit known.now (statement_of said.0)) }
+    ensures bar { IfOk result (λ said. IfSome said.1 (IsBarOf known.now.rows (statement_of said.0))) }
     ensures err { IfErr result (IsLeastOf (WordsHave known.now keyword (map (λ w. w.now) words.entry.now))) }
 {
     let apart = are_fit_splits(known.rows(), known.version(), keyword, words);
-    let fit = apart || are_fit(known.rows(), known.version(), keyword, words);
+    let bar = bar_of(known.rows(), keyword, words);
+    let fit = apart || are_all_fit(known, bar, keyword, words);
     match said(fit, keyword, words) {
-        Some(line) => match known.fault_of(fit, apart, &line) {
+        Some(line) => match known.fault_of(fit, apart, bar, &line) {
             Some(fault) => Err(fault),
-            None => Ok(line),
+            None => Ok((line, bar)),
         },
         None => Err(Fault::Shape),
     }
+}
+
+// Whether the words are fit, as those are that name a pair whose numbers are known.
+#[inline(always)]
+fn are_all_fit(
+    known: &KnownLines<'_>,
+    bar: Option<(u32, u32)>,
+    keyword: Keyword,
+    words: &[&str],
+) -> bool
+    requires { IsSome bar → (version : Version)
+        → AreFit version known.now.rows (stated keyword words.now) }
+    ensures { IsTrue result → AreFit known.now.version known.now.rows (stated keyword words.now) }
+{
+    bar.is_some() || are_fit(known.rows(), known.version(), keyword, words)
 }
 
 // What `said_by` answers: fit words are known to have the shapes of their places.

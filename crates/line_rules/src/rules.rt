@@ -134,7 +134,7 @@ pub fn second_of_key<'t>(line: &KeyedLine<'_, 't>) -> &'t str
 }
 
 // The word at a place, empty past the last.
-fn word_at<'t>(words: &[&'t str], place: usize) -> &'t str
+pub(crate) fn word_at<'t>(words: &[&'t str], place: usize) -> &'t str
     ensures { result.now ≡ slice_index_or (map (λ w. w.now) words.now) place [] }
 {
     match words.get(place) {

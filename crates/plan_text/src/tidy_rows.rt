@@ -6,12 +6,13 @@ ghost use Rattle.line_shapes.specs.Lines.{Statement, tail_words};
 ghost use Rattle.line_shapes.specs.declared.keyword.Keyword.TheVariants.{Rack, Split, Worker};
 ghost use Rattle.line_rules.specs.Entering.{entering_of as entering};
 ghost use Rattle.line_rules.specs.Known.{nth_row, rows_of};
+ghost use Rattle.line_rules.specs.Said.{row_said};
 ghost use Rattle.line_rules.specs.declared.entering.Entering.TheVariants.{Word as ByWord};
 ghost use Rattle.plan_text.specs.Names.{names_of, nth_word};
 ghost use Rattle.plan_text.specs.Tidy.{AreTidy, IsAtMost};
 ghost use Rattle.plan_text.specs.Value.{number_in, stands_in};
 
-use line_rules::Rows;
+use line_rules::{Row, Rows};
 use line_shapes::Keyword;
 use node_ids::{RackNo, SplitNo, WorkerNo};
 use std::alloc::{AllocError, Global};
@@ -57,13 +58,13 @@ impl<'r, 't> TidyRows<'r, 't> {
         self.rows.count(keyword)
     }
 
-    /// The words after the keyword of a row.
-    pub fn words(&self, keyword: Keyword, number: usize) -> &'r [&'t str]
+    /// A row.
+    pub fn row(&self, keyword: Keyword, number: usize) -> Row<'r, 't>
         requires { number < length (rows_of keyword self.now) }
-        ensures { map (λ w. w.now) result.now ≡ (nth_row keyword number self.now).words }
+        ensures { row_said result ≡ nth_row keyword number self.now }
     {
         match self.rows.row(keyword, number) {
-            Some(row) => row.words,
+            Some(row) => row,
             None => unreachable!(),
         }
     }
@@ -73,10 +74,7 @@ impl<'r, 't> TidyRows<'r, 't> {
         requires { number < length (rows_of keyword self.now) }
         ensures { result.now ≡ nth_word place (nth_row keyword number self.now) }
     {
-        match self.words(keyword, number).get(place) {
-            Some(word) => word,
-            None => "",
-        }
+        self.row(keyword, number).word(place)
     }
 
     /// The holders of a split.
@@ -85,7 +83,10 @@ impl<'r, 't> TidyRows<'r, 't> {
         ensures { map (λ w. w.now) result.now ≡ tail_words (nth_row Split split self.now) }
     {
         self.are_tidy();
-        &self.words(Keyword::Split, split)[2..]
+        match self.row(Keyword::Split, split) {
+            Row::Line(line) => &line.words[2..],
+            Row::Bar(_) => unreachable!(),
+        }
     }
 
     /// The number that the word at a place of a row stands for.

@@ -1,5 +1,5 @@
 use crate::faults::{fault_in, fault_of};
-use line_rules::{Purpose, Version, read_lines};
+use line_rules::{Purpose, Row, Version, read_lines};
 use line_shapes::Keyword;
 use std::alloc::{AllocError, Global};
 use text_lines::NameTable;
@@ -155,7 +155,9 @@ fn each_front_of_a_job_has_a_fault(rt: HostRuntime) {
 // How many commands a script has, whether its second document has its words, and whether it is in version 1.
 fn read_of(alloc: Global, text: &str) -> Option<(usize, bool, bool)> {
     let known = read_lines(alloc, Purpose::Playing, text.as_bytes()).ok()?;
-    let row = known.rows().row(Keyword::Doc, 1)?;
+    let Row::Line(row) = known.rows().row(Keyword::Doc, 1)? else {
+        return None;
+    };
     let words = row.words;
     let is_text = words.len() == 3 && words[0] == "d2" && words[2] == "cat, THE dog";
     let is_document = row.keyword == Keyword::Doc && is_text;

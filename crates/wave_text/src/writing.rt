@@ -2,7 +2,7 @@ ghost use Rattle.std.specs.Prelude.{◌<◌, ◌≤◌, length};
 ghost use Rattle.rack_tree.specs.declared.TheConstants.{MAX_WORKERS};
 ghost use Rattle.wave_problem.specs.declared.TheConstants.{MAX_SPLITS};
 
-use line_rules::{KnownLines, Rows, Version};
+use line_rules::{KnownLines, Row, Rows, Version};
 use line_shapes::Keyword;
 use node_ids::{SplitNo, WorkerNo};
 use price_certificate::Prices;
@@ -46,10 +46,7 @@ pub(crate) fn add_plan(
 // The word at a place after the keyword of a row, empty where there is none.
 fn word_in<'t>(rows: &Rows<'t>, keyword: Keyword, number: usize, place: usize) -> &'t str {
     match rows.row(keyword, number) {
-        Some(row) => match row.words.get(place) {
-            Some(word) => word,
-            None => "",
-        },
+        Some(row) => row.word(place),
         None => "",
     }
 }
@@ -78,7 +75,7 @@ fn add_rows(
     spelling: &str,
 ) -> Result<(), AllocError> {
     for number in 0..rows.count(keyword) {
-        if let Some(row) = rows.row(keyword, number) {
+        if let Some(Row::Line(row)) = rows.row(keyword, number) {
             add_row(lines, spelling, row.words)?;
         }
     }

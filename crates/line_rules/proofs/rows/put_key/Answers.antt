@@ -28,9 +28,9 @@ returns-clause-ok c =
     ] in
     let absent : other_by c.args.others.now.entries (key_in key) ≡ None =
     none_of (other_by c.args.others.now.entries (key_in key)) (λ n is. c.requires n (inr is)) in
-    let room : c.make_room.new.others.entries ≡ c.args.others.now.entries = c.make_room.ensures in
+    let room : c.make_room.new.table.entries ≡ c.args.others.now.entries = c.make_room.ensures in
     let eq : TextKey → TextKey → Bool = λ p q. same_key (key_in p) (key_in q) in
-    let last = insert_entry-new eq c.make_room.new.others key c.args.number
+    let last = insert_entry-new eq c.make_room.new.table key c.args.number
     (ap (λ os. other_by os (key_in key)) room ∙ absent) in
     let grown : c.insert.new.self.entries ≡ c.args.others.now.entries ++ (key, c.args.number) ∷ [] =
     c.in_ok-insert.ensures.entries ∙ last ∙ ap (λ os. os ++ (key, c.args.number) ∷ []) room in

@@ -1,17 +1,11 @@
-use Rattle.std.proofs.Common.{List, subst, sym}
-use Rattle.line_shapes.specs.Lines.{Statement, statement_of}
-use Rattle.line_rules.specs.Faults.{IsFirst, IsFirstOfHead, Keep}
+use Rattle.std.proofs.Common.{subst, sym}
+use Rattle.line_shapes.specs.Lines.{statement_of}
+use Rattle.line_rules.specs.Faults.{Keep}
 use Rattle.line_rules.specs.Known.{Known}
 use Rattle.line_rules.specs.declared.rule.Rule.TheVariants.{Free}
-use Rattle.line_rules.specs.declared.section.Section.{Section}
-use Rattle.line_rules.specs.declared.section.Section.TheVariants.{Head}
+use Rattle.line_rules.proofs.Paired.{first_of_head}
 use Rattle.line_rules.proofs.Sound.{fit_keeps}
 use Rattle.line_rules.proofs.known.KnownLines.is_new.Goals as goal
-
-first_of_head : (after : Section) (rows : List Statement) (s : Statement) → IsFirst rows s
-    → IsFirstOfHead after rows s
-first_of_head Head rows s first = first
-first_of_head after rows s first = tt
 
 pub returns-then-is_entered_by_new_name : goal.returns-then-is_entered_by_new_name
 returns-then-is_entered_by_new_name c =

@@ -1,8 +1,8 @@
 use Rattle.std.proofs.Common.{List, ◌≡◌, ◌≤◌, ◌<◌, ◌∙◌, ℕ, ap, arith, get_or, length, map, subst}
-use Rattle.std.specs.Prelude.{MatchOption}
-use Rattle.line_shapes.specs.Lines.{Statement, statement_of}
+use Rattle.line_shapes.specs.Lines.{Statement}
 use Rattle.line_rules.specs.Known.{rows_of}
-use Rattle.line_rules.specs.Rows.{IsRowAt, places_of}
+use Rattle.line_rules.specs.Rows.{ArePlaced, places_of}
+use Rattle.line_rules.specs.Said.{row_said}
 use Rattle.line_rules.proofs.Placed.{count_placed, list_at, row_found}
 use Rattle.line_rules.proofs.rows.Rows.row.Goals as goal
 
@@ -12,15 +12,14 @@ returns-in-Some c =
     let n = c.args.number in
     let p = c.in-Some.place.now in
     let vs = c.self.inside.places.items in
+    let placed = subst (λ (rows : List Statement). ArePlaced rows (map (λ v. v.items) vs)) c.self.view_is
+    c.self.invariant.0 in
     let list : c.deref.result.now ≡ places_of (map (λ v. v.items) vs) k =
-    c.deref.ensures.value ∙ list_at _ vs c.self.invariant.0 k _ _ c.index.ensures in
+    c.deref.ensures.value ∙ list_at _ vs placed k _ _ c.index.ensures in
     let found = c.in-Some.ensures.lookup in
     let lt = subst (λ (ps : List ℕ). n < length ps) list found.3.0 in
     let is = subst (λ (ps : List ℕ). p ≡ get_or ps n p) list found.1 in
-    let there = row_found _ _ c.self.invariant.0 k n p lt is c.line.result c.line.ensures in
-    subst (λ (rows : List Statement). MatchOption c.line.result (length (rows_of k rows) ≤ n)
-    (λ line. (n < length (rows_of k rows)) × IsRowAt (rows_of k rows) n (statement_of line)))
-    c.self.view_is there
+    row_found _ _ placed k row_said n p lt is c.row_at.result c.row_at.ensures
 
 pub returns-in-None : goal.returns-in-None
 returns-in-None c =
