@@ -1,6 +1,6 @@
 -- How counts read over bases that go on, and how they are made one by one.
-use Rattle.std.proofs.Common.{◌≡◌, ℕ, zero, suc, ◌+◌, ◌-◌, ◌%◌, ◌^◌, ◌<◌, ◌≤◌, List, [], ◌∷◌, ◌++◌, length, All}
-use Rattle.std.proofs.Common.{take, get_or, slice_get, slice_index_or, Some, refl, sym, ap, ◌∙◌, arith}
+use Rattle.std.proofs.Common.{◌≡◌, ℕ, zero, suc, ◌+◌, ◌-◌, ◌%◌, ◌^◌, ◌<◌, ◌≤◌, List, [], ◌∷◌, ◌++◌, length}
+use Rattle.std.proofs.Common.{All, take, get_or, slice_get, slice_index_or, Some, refl, sym, ap, ◌∙◌, arith}
 use Rattle.std.specs.Prelude.{replicate}
 use Rattle.std.proofs.Math.ListN.{set}
 use Rattle.std.proofs.Math.Nat.{mod-eq_of_lt}
@@ -92,7 +92,8 @@ from_zero (c ∷ counts) (suc n) is all =
     λ k. first k ∷ others k
 
 -- a rise more, which leads back to its count
-pub rises_more : (base counts rises : List ℕ) (i : ℕ) → i < length base → i < length counts → i < length rises →
+pub rises_more : (base counts rises : List ℕ) (i : ℕ) → i < length base → i < length counts →
+    i < length rises →
     get_or base i 0 ≤ get_or counts i 0 → get_or counts i 0 < 2 ^ 64 →
     counts_from (take i base) (take i rises) ≡ take i counts →
     counts_from (take (i + 1) base) (take (i + 1) (set rises i (get_or counts i 0 - get_or base i 0)))

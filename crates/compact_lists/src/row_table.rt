@@ -26,7 +26,7 @@ impl<T: Copy> Model for RowTable<T> {
 }
 
 impl<T: Copy> RowTable<T> {
-    // The empty table of such rows, with room for so many.
+    // The empty table of rows of a width, with room for a number of rows.
     pub(crate) fn with_room(
         alloc: Global,
         room: u32,

@@ -38,7 +38,7 @@ new_hand workers room = record {
   full = false;
 }
 
--- the counts of the workers that a hand keeps, of those that are handed in
+-- of the counts that are handed in, a hand keeps the counts of its workers
 abbrev pub own_counts : HandValue → List (List ℕ) → List (List ℕ)
 own_counts hand counts = map (take hand.workers) counts
 

@@ -1,4 +1,4 @@
-//! The lines of an index, those of a long one by up to four threads side by side.
+//! Makes the lines of an index. Up to four threads side by side make the lines of a long index.
 ghost use Rattle.std.specs.Prelude.{◌≡◌, ◌++◌, ℕ, List, [], IfOk, OnOk, string_bytes};
 ghost use Rattle.std.specs.Result.{ForOk};
 ghost use Rattle.text_lines.specs.Texts.{Word};
@@ -18,7 +18,8 @@ use word_map::Entry;
 // to start threads.
 const FEW_WORDS: usize = 4_096;
 
-// How much stack a thread of a run asks for, as those of its workers do.
+// The bytes of stack that a thread asks for which makes lines or lets a master go. A worker's thread asks for as
+// many.
 pub(crate) const STACK_BYTES: usize = 262_144;
 
 /// The names of documents, and four parts of an index. Each call picks them.
@@ -116,8 +117,7 @@ struct QuarterLines<C: Cut> {
 }
 
 impl<'a, 't, C: Cut + Send + Sync> Quarters<'a, 't, C> {
-    // The lines of the first three parts are made in threads of their own, while this thread makes those of the
-    // fourth.
+    // Three threads make the lines of the first three parts, while this thread makes the lines of the fourth part.
     fn lines<R: Threads + Wait>(&self, rt: &R, alloc: Global) -> QuarterLines<C> {
         thread::scope(thread::scope_env(), rt, |scope| -> QuarterLines<C> {
             let first = self.first.start(scope, alloc);

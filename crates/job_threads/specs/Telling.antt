@@ -1,5 +1,6 @@
 -- What a worker tells the master of its orders.
-use Rattle.std.specs.Prelude.{ℕ, ◌≡◌, ◌≢◌, ◌⊎◌, Bool, true, false, List, [], ◌∷◌, ◌++◌, length, Option, Some, None, IfSome}
+use Rattle.std.specs.Prelude.{ℕ, ◌≡◌, ◌≢◌, ◌⊎◌, Bool, true, false, List, [], ◌∷◌, ◌++◌, length}
+use Rattle.std.specs.Prelude.{Option, Some, None, IfSome}
 use Rattle.std.specs.Arc.{arc_value}
 use Rattle.std.specs.Option.{is_some}
 use Rattle.word_map.specs.Runs.{MapView}
@@ -88,4 +89,5 @@ worker_room = record { events = 4096; attempts = 0; sweeps = 0 }
 -- The hand of a worker's thread when it ends: it has done the orders that it took from its lane, and told
 -- nothing else.
 abbrev pub HasWorked : Setup → PassValue → HandValue → Type 0
-HasWorked setup pass hand = PerformsAll setup pass.takes (new_hand (length setup.cluster.slots) worker_room) hand
+HasWorked setup pass hand =
+    PerformsAll setup pass.takes (new_hand (length setup.cluster.slots) worker_room) hand

@@ -33,7 +33,7 @@ two_words (v ∷ w ∷ x ∷ words) d e two = absurd (omega (arith, two))
 
 module _ (rows : List Statement) (first second : Word) (split worker : ℕ)
     (one : HasNumber rows (Split, first, []) split) (two : HasNumber rows (Worker, second, []) worker) where
-  -- the numbers of its names are those of its pair
+  -- the rows of its two names have the numbers of its pair
   pub pair_numbered : IsBarOf rows (bar_said first second) (split, worker)
   pair_numbered = record {
     within = (one.inside, two.inside);

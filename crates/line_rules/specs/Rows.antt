@@ -39,7 +39,7 @@ name_in k rows n = slice_index_or (nth_row k n rows).words 0 []
 abbrev pub bar_said : Word → Word → Statement
 bar_said split worker = record { keyword = Barred; words = split ∷ worker ∷ [] }
 
--- what a kept line says, where the names of its pair are those that these rows declare
+-- what a kept line says: the rows of its pair's numbers declare the pair's names
 abbrev pub said_in : List Statement → Kept → Statement
 said_in rows (Line s) = s
 said_in rows (Bar split worker) = bar_said (name_in Split rows split) (name_in Worker rows worker)
@@ -54,7 +54,7 @@ worded (Bar split worker ∷ ks) = worded ks
 abbrev pub rows_in : List Kept → List Statement
 rows_in ks = map (said_in (worded ks)) ks
 
--- the numbers are those of a split and a worker of these rows
+-- the first number is a split's and the second a worker's, among these rows
 abbrev pub AreNumbers : List Statement → ℕ → ℕ → Type 0
 AreNumbers rows split worker = (split < length (rows_of Split rows)) × (worker < length (rows_of Worker rows))
 

@@ -91,8 +91,8 @@ with_map_failed s a =
     let left = without_attempt s a in
     record left { workers = with_bar left.workers (split_running s a) (worker_of s a) }
 
--- Beats and silences change by the counts, of which those of the workers are kept. Then each worker dies that
--- was silent too long.
+-- Beats and silences change by the counts, and the counts of the job's workers are kept. Then each worker dies
+-- that was silent too long.
 abbrev pub with_sweep : State → List ℕ → State
 with_sweep s counts =
     let table = swept s.workers counts in
