@@ -48,8 +48,8 @@ impl<'a> Log<'a> {
         event_at(self.history, place)
     }
 
-    // Whether the history has at the entry's place just this call: the entry's event, with the counts that begin at
-    // an index of a list, and with these starts.
+    // Whether the history has at the entry's place just this call: the entry's event, with the counts that begin
+    // at an index of a list, and with these starts.
     pub(crate) fn has(
         &self,
         entry: &Entry,
