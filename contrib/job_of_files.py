@@ -21,7 +21,7 @@ import sys
 # The most of each setting. A job has a thread for each worker, so fewer of these.
 MOST = {"racks": 32, "workers": 256, "slots": 16, "centres": 8, "replicas": 8, "block": 67_108_864, "parts": 64}
 MOST_WORKERS_OF_A_JOB = 32
-MOST_SPLITS, MOST_DOCUMENTS, MOST_TEXT, MOST_OF_A_NAME = 1024, 65_536, 16_777_216, 64
+MOST_SPLITS, MOST_DOCUMENTS, MOST_TEXT, MOST_OF_A_NAME = 131_072, 1_048_576, 16_777_216, 64
 PRINTABLE = bytes(range(32, 127))
 TO_SPACES = bytes(byte if byte in PRINTABLE else 32 for byte in range(256))
 

@@ -26,7 +26,7 @@ from collections import Counter
 from typing import Dict, Iterable, Iterator, List, NamedTuple, Optional, Tuple
 
 MOST = {"centre": 256, "rack": 4096, "worker": 32_768, "split": 131_072}
-MOST_BYTES, MOST_HOLDERS, MOST_SLOTS = 8_589_934_592, 8, 255
+MOST_BYTES, MOST_HOLDERS, MOST_SLOTS = 8_589_934_592, 16, 255
 DEFAULT_RACK = "/default-rack"
 
 FILE = re.compile(r"(?P<file>/.*) [0-9]+ bytes, (?P<sort>\S+: \S+, )?[0-9]+ block\(s\)[:,]")

@@ -9,6 +9,7 @@ LONG_NAME = re.compile(r"[A-Za-z0-9._:/-]{1,64}")
 MOST = {"centre": 256, "rack": 4096, "worker": 32_768, "split": 131_072}
 # What is less in texts of an older version than 3.
 OLD_MOST, MOST_SLOTS, MOST_BYTES = {"centre": 8, "rack": 32, "worker": 256, "split": 1024}, 16, 67_108_864
+MOST_HOLDERS, OLD_MOST_HOLDERS = 16, 8
 # The places of each line: `+KIND` declares a name, KIND uses one, LEAST-GREATEST is a number, and a `*` says any count.
 HEAD = {
     "centre": "+centre", "rack": "+rack", "worker": "+worker rack 0-255", "split": "+split 0-8589934592 worker*",
@@ -87,7 +88,8 @@ class Text:
         if older and self.version < 3 and int(words[older[0]]) > older[1]:
             found.append(5)
         if keyword == "split":
-            found += [6] * (len(words) > 10) + [8] * (len(set(words[2:])) < len(words[2:]))
+            most = MOST_HOLDERS if self.version == 3 else OLD_MOST_HOLDERS
+            found += [6] * (len(words) > 2 + most) + [8] * (len(set(words[2:])) < len(words[2:]))
         if keyword in ("start", "price") and words[0] in (self.starts if keyword == "start" else self.prices):
             found.append(9)
         priced = len(self.numbers["split"]) + len(self.numbers["worker"])
@@ -121,7 +123,8 @@ class Text:
 
 def read(data, has_plan):
     """What a problem's text declares, or its least fault."""
-    if len(data) > (268_435_456 if data.startswith(b"problem 3\n") else 16_777_216):
+    is_long = data.startswith((b"problem 3\n", b"script 3\n", b"job 3\n"))
+    if len(data) > (268_435_456 if is_long else 16_777_216):
         raise Fault("line 0: fault 11")
     *lines, rest = data.decode("latin-1").split("\n")
     text = Text(has_plan)

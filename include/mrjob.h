@@ -48,7 +48,7 @@ extern "C" {
 #define MRJOB_MAX_WIDE_SPLITS 131072 /* of a wide wave, see below */
 #define MRJOB_MAX_DIRECT_SPLITS 1024 /* of a plan over MRJOB_DIRECT */
 #define MRJOB_MAX_DIRECT_WORKERS 256 /* of a plan over MRJOB_DIRECT */
-#define MRJOB_MAX_HOLDERS 8          /* of one split */
+#define MRJOB_MAX_HOLDERS 16         /* of one split */
 #define MRJOB_MAX_SLOTS 255          /* of one worker: any uint8_t */
 #define MRJOB_MAX_BYTES 8589934592   /* of one split, 8 GiB */
 

@@ -18,13 +18,19 @@ TEXT = """#![tactic(auto)]
 use shared_master::{Hand, OfJob, SharedMaster};
 use std::sync::Wait;
 use std::sync::ledger::Ledger;
+use worker_table::DeadList;
 
-pub fn own<L: Ledger + OfJob, R: Wait>(rt: &R, shared: &SharedMaster<L>, hand: &mut Hand<L>) {
-    let _ = shared.sweep(rt, hand, &[0; 256]);
+pub fn own<L: Ledger + OfJob, R: Wait>(rt: &R, shared: &SharedMaster<L>, hand: &mut Hand<L>, dead: &mut DeadList) {
+    let _ = shared.sweep(rt, hand, &[0; 2], dead);
 }
 
-pub fn another<L: Ledger + OfJob, M: Ledger, R: Wait>(rt: &R, shared: &SharedMaster<L>, hand: &mut Hand<M>) {
-    let _ = shared.sweep(rt, hand, &[0; 256]);
+pub fn another<L: Ledger + OfJob, M: Ledger, R: Wait>(
+    rt: &R,
+    shared: &SharedMaster<L>,
+    hand: &mut Hand<M>,
+    dead: &mut DeadList,
+) {
+    let _ = shared.sweep(rt, hand, &[0; 2], dead);
 }
 """
 

@@ -77,7 +77,7 @@ struct given {
     uint16_t centre_of[33];
     struct mrjob_worker workers[257];
     struct mrjob_split splits[2];
-    uint16_t holders[9];
+    uint16_t holders[17];
     struct mrjob_pair barred[1];
     struct mrjob_wave wave;
     uint32_t network;
@@ -238,8 +238,10 @@ static void test_statuses(void)
     make(), given.wave.workers_len = 32769, count_both(MRJOB_BAD_WORKERS, "32,769 workers");
     make(), given.workers[1].rack = 2, count_both(MRJOB_BAD_WORKERS, "a worker in no rack");
     make(), given.splits[1].bytes = MRJOB_MAX_BYTES + 1, count_both(MRJOB_BAD_SPLITS, "a split of too many bytes");
-    make(), given.wave.holders_len = 9, given.splits[0].holder_count = 9;
-    count_both(MRJOB_BAD_SPLITS, "a split of 9 holders");
+    make(), given.wave.holders_len = 17, given.splits[0].holder_count = 17;
+    count_both(MRJOB_BAD_SPLITS, "a split of 17 holders");
+    make(), given.wave.holders_len = 16, given.splits[0].holder_count = 16;
+    count_both(MRJOB_BAD_HOLDERS, "a split of 16 holders, of which some are one worker");
     make(), given.splits[1].first_holder = 2, count_both(MRJOB_BAD_SPLITS, "a holder past the last");
     make(), given.splits[1].first_holder = UINT32_MAX, count_both(MRJOB_BAD_SPLITS, "a holder far past the last");
     make(), given.barred[0].split = 2, count_both(MRJOB_BAD_BARRED, "a barred pair of no split");
@@ -269,7 +271,7 @@ static void test_places(void)
     make(), given.workers[1].rack = 2, count_place(MRJOB_BAD_WORKERS, 1, "the place of a worker in no rack");
     given.workers[0].rack = 2, count_place(MRJOB_BAD_WORKERS, 0, "the first of two workers");
     make(), given.splits[1].bytes = MRJOB_MAX_BYTES + 1, count_place(MRJOB_BAD_SPLITS, 1, "the place of a great split");
-    given.splits[0].holder_count = 9, count_place(MRJOB_BAD_SPLITS, 0, "the first of two splits");
+    given.splits[0].holder_count = 17, count_place(MRJOB_BAD_SPLITS, 0, "the first of two splits");
     make(), given.splits[1].first_holder = UINT32_MAX, count_place(MRJOB_BAD_SPLITS, 1, "of a holder past the last");
     make(), given.barred[0].worker = 2, count_place(MRJOB_BAD_BARRED, 0, "the place of a pair of no worker");
     make(), given.holders[1] = 2, count_place(MRJOB_BAD_HOLDERS, 1, "the place of a split held by no worker");

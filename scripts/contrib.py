@@ -40,6 +40,7 @@ from crates import ROOT, read_crates, version
 from reference_play import misplayed
 
 sys.path.append(str(ROOT / "contrib"))
+import job_of_files
 from certify import answer
 from drawing import cut
 from picture_of_plan import draw_plan
@@ -363,8 +364,6 @@ def refused(count, room):
     """Past a limit nothing is written, and a sentence says which."""
     folder = lambda name, files: [room / name, *((room / name / at, text) for at, text in files)]
     rooms = [
-        folder("splits", ((f"{number}", "x") for number in range(1025))),
-        folder("documents", ((f"{number}", "") for number in range(65_537))),
         folder("bytes", [("one", "x" * 9_000_000), ("two", "x" * 7_777_217)]),
         folder("text", [("one", "x" * 9_000_000), ("two", "x" * 7_777_216)]),
         folder("empty", []),
@@ -374,8 +373,6 @@ def refused(count, room):
         for file, text in files:
             file.write_text(text)
     cases = [
-        (["splits", "--block", "1"], "the files fill 1,025 splits, past 1,024: take a greater --block"),
-        (["documents"], "there are more than 65,536 files, the most documents of a text"),
         (["bytes"], "the files have more than 16,777,216 bytes, the most of a text"),
         (["text", "--racks", 1, "--workers", 1], "the text has 16,777,401 bytes, past 16,777,216"),
         (["empty"], "no file was taken"),
@@ -394,8 +391,15 @@ def refused(count, room):
         lines = answer[1].splitlines()
         count.expect(f"job_of_files.py says: {sentence}", (answer[0], lines, answer[2]),
                      (b"", [f"job_of_files.py: {sentence}"], 1))
-    answer = script("job_of_files.py", room / "splits", "--block", "2")
-    count.expect("513 splits are not too many", answer[2], 0)
+    documents = job_of_files.Documents([])
+    documents.texts = [b"x"] * 131_073
+    count.expect("65,537 splits are not too many", len(documents.splits(2)), 65_537)
+    try:
+        said = len(documents.splits(1))
+    except job_of_files.Limit as limit:
+        said = str(limit)
+    count.expect("131,073 splits are too many", said,
+                 "the files fill 131,073 splits, past 131,072: take a greater --block")
 
 
 def drawn(count):

@@ -27,7 +27,7 @@ from reference_text import MAX_TEXT_BYTES
 
 CHECKED = {"best": 120, "changed": 200, "faulty": 320}
 PLANNED = {"problem": 300, "faulty_problem": 200}
-PLAYED = {"script": 1000, "faulty_script": 500}
+PLAYED = {"script": 1000, "faulty_script": 500, "vast_script": 20, "joined_script": 40}
 RUN = {"job": 2000, "faulty_job": 500}
 RECORDED = {"job": 300}
 # How many splits the larger problems have, up to the most, with each size near it: more than a thread takes at once,
@@ -66,10 +66,16 @@ def groups():
     yield "front", wrong_run, fronts("run_words.txt")
     yield "death", wrong_death, deaths("play_death.txt", [b"a", b"b"])
     yield "full", wrong_index, [(f"a job of {over} bytes past the most", full_of_bytes(over)) for over in (0, 1)]
+    yield "full", wrong_index, [
+        (f"a job of {over} documents past the most", full_of_documents(over)) for over in (0, 1)
+    ]
+    yield "full", wrong_run, [(f"a job of {over} workers past the most", full_of_workers(over)) for over in (0, 1)]
+    yield "full", wrong_index, [(f"a job of {over} splits past the most", full_of_splits(over)) for over in (0, 1)]
     for most, wrong, make in (
         (make_texts.MOST, wrong_check, make_texts.limit),
         (make_texts.MOST_OF_3, wrong_check, lambda kind, over: make_texts.limit(kind, over, 3)),
         (make_texts.MOST_OF_SCRIPTS, wrong_play, make_texts.limit_of_scripts),
+        (make_texts.MOST_OF_SCRIPTS_3, wrong_play, lambda kind, over: make_texts.limit_of_scripts(kind, over, 3)),
     ):
         yield "limit", wrong, [
             (f"{over} past the most {kind}s", make(kind, over)) for kind in most for over in (0, 1)
@@ -111,6 +117,26 @@ def full_of_bytes(over):
     front, end = b"job 1\nrack r\nworker a r 1\nsplit s 1 a\ndoc d s ", b"\nend\n"
     room = MAX_TEXT_BYTES + over - len(front) - len(end)
     return front + (b"some words " * room)[:room] + end
+
+
+def full_of_documents(over):
+    """A job of as many documents as one of version 3 may have, or one more."""
+    count = make_texts.MOST_OF_SCRIPTS_3["document"] + over
+    lines = ["job 3", "centre z", "rack r z", "worker w r 1", "split s 1 w", "split t 1 w"]
+    return make_texts.text_of([*lines, *(f"doc {i:X} {'st'[i % 2]} w" for i in range(count)), "end"])
+
+
+def full_of_workers(over):
+    """A job of as many workers as one of version 3 may have, or one more."""
+    return make_texts.wide_job(random.Random(over), 3, make_texts.MOST_WORKERS_OF_JOBS_3 + over)
+
+
+def full_of_splits(over):
+    """A job of as many splits as one of version 3 may have, or one more. Each has a holder, and the first a document."""
+    count, workers = make_texts.MOST_OF_SCRIPTS_3["split"] + over, [f"w{w}" for w in range(4)]
+    lines = ["job 3", "centre z", "rack r z", *(f"worker {name} r 255" for name in workers)]
+    lines += [f"split s{s} 1 {workers[s % 4]}" for s in range(count)]
+    return make_texts.text_of([*lines, "doc d s0 some words", "end"])
 
 
 def example(name):

@@ -23,6 +23,7 @@ import crates  # (it ends a script quietly where head does)
 LONGEST = 16_777_216
 SHORT = 524_288
 MEGABYTE = 1_000_000
+MANY = 1_048_576
 WORKERS = [f"w{number}" for number in range(256)]
 SPLITS = [f"s{number}" for number in range(1024)]
 
@@ -77,8 +78,12 @@ def documents():
     return (f"doc d{number} s {'x' * 230}\n" for number in range(65_536))
 
 
-def commands(line):
-    return lambda: (f"{line}\n" for _ in range(65_536))
+def short_documents():
+    return (f"doc {number:X} s\n" for number in range(MANY))
+
+
+def commands(line, count=65_536):
+    return lambda: (f"{line}\n" for _ in range(count))
 
 
 PLAIN = head("problem", ["a", "b"], [])
@@ -86,6 +91,8 @@ WIDE = head("problem", WORKERS, SPLITS)
 SCRIPT = head("script", ["a", "b"], ["s", "t"]) + "begin\n"
 WIDE_SCRIPT = head("script", WORKERS, SPLITS) + "begin\n"
 JOB = head("job", ["a"], ["s"])
+NEW_HEAD = ("centre z", "rack r z", "worker a r 1", "split s 1 a")
+NEW_SCRIPT, NEW_JOB = lines("script 3", *NEW_HEAD, "begin"), lines("job 3", *NEW_HEAD)
 HOLDERS = [f"w{number}" for number in range(4096)]
 WIDER = lines("problem 3", "centre c", "rack r c", *(f"worker {it} r 1" for it in HOLDERS))
 
@@ -122,6 +129,8 @@ ALL = [
     Hostile("a fault behind commands", "play", 1, late(SCRIPT, commands("done 1000000")), 8, 80),
     Hostile("a fault behind barred pairs", "plan", 1, late(WIDE, barred_pairs), 18, 125),
     Hostile("a fault behind documents", "run", 1, late(JOB, documents), 13, 12),
+    Hostile("a fault behind a million commands", "play", 1, late(NEW_SCRIPT, commands("done 1000000", MANY)), 60, 80),
+    Hostile("a fault behind a million documents", "run", 1, late(NEW_JOB, short_documents), 120, 160),
 ]
 
 

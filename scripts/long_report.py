@@ -5,9 +5,9 @@
 
 In the first script all `copies` order the same. In the others each orders otherwise than the one before: each split
 goes to another worker; one split goes from another worker to another one; or most splits go to another worker, and some
-from another one. To which workers all splits go takes 1 KiB, the most that a death can change in a report's memory. Each
-report is compared with what it is to be, byte by byte. The memory is what the program has at its peak. The last line is
-'N passed, M failed'.
+from another one. A report keeps of each `copies` no more than how many events came before it. Each report is compared
+with what it is to be, byte by byte. The memory is what the program has at its peak. The last line is 'N passed, M
+failed'.
 """
 import re
 import subprocess
@@ -98,7 +98,7 @@ def another_of_other_holders():
 
 # How many bytes a program may have at its peak, and each kind of script: its lines, and the pieces of its report up to
 # the open splits.
-MOST = 60 * MEGABYTE
+MOST = 20 * MEGABYTE
 ALL = {
     "all copies the same": the_same,
     "each copies to another worker": each_another,

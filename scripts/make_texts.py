@@ -3,7 +3,8 @@
 and jobs.
 
     make_texts.py KIND SEED        writes one text; KIND is best, changed, faulty, problem, faulty_problem, script,
-                                   faulty_script, job, wide_job, scattered_job, faulty_job, full or large
+                                   faulty_script, vast_script, joined_script, job, wide_job, scattered_job, faulty_job,
+                                   full or large
 """
 import random
 import re
@@ -13,9 +14,11 @@ sys.dont_write_bytecode = True
 import crates  # (it ends a script quietly where head does)
 
 MOST = {"centre": 8, "rack": 32, "worker": 256, "split": 1024}
-# Of a problem of version 3.
+# Of a problem of version 3, of a script of it, and how many workers of a job of it.
 MOST_OF_3 = {"centre": 256, "rack": 4096, "worker": 32_768, "split": 131_072}
 MOST_OF_SCRIPTS = {**MOST, "document": 65_536, "command": 65_536}
+MOST_OF_SCRIPTS_3 = {**MOST_OF_3, "document": 1_048_576, "command": 1_048_576}
+MOST_WORKERS_OF_JOBS_3 = 1024
 KEYWORDS = ["problem", "script", "job", "centre", "rack", "worker", "split", "barred", "dead", "busy", "plan", "start"]
 KEYWORDS += ["price", "end", "parts", "target", "silence", "doc", "begin", "wave", "done", "fail", "withdraw", "die"]
 KEYWORDS += ["join", "add", "lose", "sweep", "reduce", "copies", "backup"]
@@ -66,6 +69,9 @@ class Scenario:
         self.version, self.centres = rnd.choice([(1, 1), (1, 1), (2, 1), (2, 2), (2, 3), (3, 1), (3, 3)])
         self.centre_of = [rnd.randrange(self.centres) for _ in range(racks)]
         self.workers = rnd.choice([0, *[2, 3, 4, 5] * 3])
+        if self.version == 3 and rnd.random() < 0.1:
+            # (enough for the most holders of a split, and one that may become one more)
+            self.workers = 18
         self.splits = rnd.choice([0, *[2, 3, 5, 8] * 3])
         w, s = range(self.workers), range(self.splits)
         self.racks = racks
@@ -77,7 +83,9 @@ class Scenario:
         self.pending = [rnd.random() < 0.85 for _ in s]
         # (where few workers hold all, splits compete for their slots)
         near = range(rnd.choice([min(self.workers, 2), self.workers]))
-        self.holders = [rnd.sample(near, min(len(near), rnd.choice([0, 1, 1, 1, 2, 3, 8]))) for _ in s]
+        self.holders = [rnd.sample(near, min(len(near), rnd.choice([0, 1, 1, 1, 2, 3, 8, 16]))) for _ in s]
+        if self.version < 3:
+            self.holders = [held[:8] for held in self.holders]
         self.barred = [(i, j) for i in s for j in w if rnd.random() < 0.1]
         self.reward = 1 + (6 if self.centres > 1 else 4) * sum(self.bytes)
         self.starts, self.split_price, self.worker_price = [None] * self.splits, [0] * self.splits, [0] * self.workers
@@ -203,7 +211,8 @@ def spoil_line(rnd, lines):
     elif kind == 2:
         del words[rnd.randrange(len(words))]
     elif kind == 3:
-        words += rnd.choice([words[-1:], rnd.sample([f"w{w}" for w in range(5)] * 2, rnd.randint(1, 9))])
+        names = [f"w{w}" for w in range(rnd.choice([5, 5, 18]))] * 4
+        words += rnd.choice([words[-1:], rnd.sample(names, rnd.randint(1, 17))])
     if kind < 4:
         lines[at] = " ".join(words)
     elif kind == 4:
@@ -299,6 +308,49 @@ def faulty_script(rnd):
     return spoiled(rnd, script_lines(rnd))
 
 
+def vast_script(rnd):
+    """A script of 1,500 workers in version 3, of which a few have slots and hold splits. Sweeps in which most beat
+    stand between other commands, so that many workers die and some come back."""
+    workers = [f"w{at}" for at in range(1500)]
+    slots = dict.fromkeys(rnd.sample(workers, 6), 2)
+    near = [*slots, *rnd.sample(workers, 20)]
+    lines = ["script 3", "parts 2", f"silence {rnd.randint(1, 2)}", f"target {rnd.randint(1, 8)}"]
+    lines += [*(f"centre c{at}" for at in range(9)), *(f"rack r{at} c{at % 9}" for at in range(40))]
+    lines += [f"worker {name} r{rnd.randrange(40)} {slots.get(name, 0)}" for name in workers]
+    for at in range(12):
+        lines.append(" ".join([f"split s{at} {rnd.randint(1, 99)}", *rnd.sample(near, rnd.randint(0, 4))]))
+        lines.append(f"doc d{at} s{at} some words")
+    lines += ["begin", "wave", "copies"]
+    beats = dict.fromkeys(workers, 0)
+    for number in range(1, 25):
+        still = {*rnd.sample(workers, rnd.choice([1, 9, 200])), *rnd.sample(near, rnd.choice([0, 0, 1, 3]))}
+        beats = {name: count + (name not in still) for name, count in beats.items()}
+        lines.append(" ".join(["sweep", *(str(beats[name]) for name in workers)]))
+        some = " ".join(f"s{at}" for at in sorted(rnd.sample(range(12), rnd.randint(0, 3))))
+        kinds = ["copies", "copies", "wave", f"done {number}", f"fail {number}", f"die {rnd.choice(near)}"]
+        kinds += [f"add s{rnd.randrange(12)} {rnd.choice(workers)}", f"lose s{rnd.randrange(12)} {rnd.choice(near)}"]
+        kinds += [f"join {rnd.choice([*near, *still])} {some}".strip()] * 3
+        lines += rnd.choices(kinds, k=4)
+    return text_of([*lines, "wave", "end"])
+
+
+def joined_script(rnd):
+    """A script of more than 1,024 splits in version 3, in whose joins up to all of them stand, and now and then one
+    twice."""
+    splits, workers = [f"s{at}" for at in range(rnd.randint(1025, 1500))], ["a", "b", "c"]
+    lines = ["script 3", "target 2", "centre z", "rack r z", *(f"worker {name} r 2" for name in workers)]
+    for name in splits:
+        lines.append(" ".join([f"split {name} {rnd.randint(1, 99)}", *rnd.sample(workers, rnd.randint(0, 2))]))
+    lines.append("begin")
+    for _ in range(rnd.randint(1, 6)):
+        back = rnd.choice(workers)
+        some = rnd.sample(splits, rnd.choice([1, 9, 64, 65, 66, 1000, len(splits)]))
+        if rnd.random() < 0.15:
+            some.insert(rnd.randrange(len(some) + 1), rnd.choice(some))
+        lines += [f"die {back}", " ".join([f"join {back}", *some]), rnd.choice(["wave", "copies", "done 1"])]
+    return text_of([*lines, "end"])
+
+
 def job_lines(rnd):
     """The lines of a job: in most, some worker has a slot, and each split a holder, so that every part can be done."""
     scenario = Scenario(rnd)
@@ -321,10 +373,11 @@ def job(rnd):
     return text_of(job_lines(rnd))
 
 
-def wide_job(rnd):
-    """A job of 32 workers, 64 parts and 300 splits."""
-    words, workers = ["one", "two", "The", "the", "x1y", "zebra"], [f"w{at}" for at in range(32)]
-    lines = ["job 1", "parts 64", "rack r", "rack q"]
+def wide_job(rnd, version=1, workers=32):
+    """A job of so many workers, 64 parts and 300 splits."""
+    words, workers = ["one", "two", "The", "the", "x1y", "zebra"], [f"w{at}" for at in range(workers)]
+    racks = ["rack r", "rack q"] if version == 1 else ["centre c", "centre e", "rack r c", "rack q e"]
+    lines = [f"job {version}", "parts 64", *racks]
     lines += [f"worker {name} {rnd.choice('rq')} {rnd.choice([1, 16])}" for name in workers]
     for at in range(300):
         lines.append(" ".join([f"split s{at} {rnd.randint(0, 99)}", *rnd.sample(workers, rnd.randint(1, 8))]))
@@ -395,14 +448,17 @@ def limit(kind, over, version=2):
     return text_of([*lines, "end"])
 
 
-def limit_of_scripts(kind, over):
-    """A script of version 3 with so many past the most of what a head declares, or past the most commands."""
-    count = {**dict.fromkeys(MOST_OF_SCRIPTS, 1), kind: MOST_OF_SCRIPTS[kind] + over}
-    lines = ["script 3", *(f"centre c{i}" for i in range(count["centre"]))]
+def limit_of_scripts(kind, over, version=2):
+    """A script with so many past the most of what a head declares, or past the most commands. In version 3
+    documents have short names, so that a text has room for the most of them."""
+    most = MOST_OF_SCRIPTS_3 if version == 3 else MOST_OF_SCRIPTS
+    count = {**dict.fromkeys(most, 1), kind: most[kind] + over}
+    lines = [f"script {version}", *(f"centre c{i}" for i in range(count["centre"]))]
     lines += [f"rack r{i} c0" for i in range(count["rack"])]
     lines += [f"worker w{i} r0 1" for i in range(count["worker"])]
-    lines += [f"split s{i} 1 w0" for i in range(count["split"])]
-    lines += [f"doc d{i} s0 word" for i in range(count["document"])] + ["begin"]
+    lines += [f"split b{i} 1 w0" for i in range(count["split"])]
+    documents = (f"{i:X}" if version == 3 else f"d{i}" for i in range(count["document"]))
+    lines += [*(f"doc {name} b0 w" for name in documents), "begin"]
     return text_of([*lines, *["reduce"] * count["command"], "end"])
 
 
@@ -437,6 +493,8 @@ KINDS = {
     "problem": problem,
     "script": script,
     "faulty_script": faulty_script,
+    "vast_script": vast_script,
+    "joined_script": joined_script,
     "job": job,
     "wide_job": wide_job,
     "scattered_job": scattered_job,

@@ -94,11 +94,11 @@ UNFIT_WAVES = [
     ({"splits": [(2**33 + 1, 0, 1, 1)]}, Status.BAD_SPLITS, "split 0: 8,589,934,593 bytes, at most 8,589,934,592"),
     ({"splits": [(2**64, 0, 1, 1)]}, Status.BAD_SPLITS, f"split 0: {2**64:,} bytes, at most 8,589,934,592"),
     ({"splits": [(-1, 0, 1, 1)]}, Status.BAD_SPLITS, "split 0: -1 bytes, at least 0"),
-    ({"splits": [(10, 0, 9, 1)]}, Status.BAD_SPLITS, "split 0: 9 holders, at most 8"),
+    ({"splits": [(10, 0, 17, 1)]}, Status.BAD_SPLITS, "split 0: 17 holders, at most 16"),
     ({"splits": [(10, 0, 2, 1)]}, Status.BAD_SPLITS, "split 0: holders from 0 up to 2, and there are 1"),
     ({"splits": [(10, 2**32, 1, 1)]}, Status.BAD_SPLITS,
      "split 0: holders from 4,294,967,296 up to 4,294,967,297, and there are 1"),
-    ({"splits": [(10, 0, 2**16, 1)]}, Status.BAD_SPLITS, "split 0: 65,536 holders, at most 8"),
+    ({"splits": [(10, 0, 2**16, 1)]}, Status.BAD_SPLITS, "split 0: 65,536 holders, at most 16"),
     ({"barred": [(0, 0), (2**16, 0)]}, Status.BAD_BARRED, "barred pair 1: there is no split 65,536 among 1"),
     ({"barred": [(-1, 0)]}, Status.BAD_BARRED, "barred pair 0: there is no split -1 among 1"),
     ({"barred": [(0, 1)]}, Status.BAD_BARRED, "barred pair 0: there is no worker 1 among 1"),
@@ -119,8 +119,8 @@ WAVE = arrays.Wave(**FIT)
 
 def wave_of(splits, workers):
     """A wave of so many splits of the most bytes on so many workers, with as many as there may be of all else."""
-    racks, stands, split = [255] * 4096, [(4095, 255, 2**8)] * workers, (2**33, 0, 8, 2**16)
-    return arrays.Wave(256, racks, stands, [split] * splits, range(8), [(splits - 1, workers - 1)])
+    racks, stands, split = [255] * 4096, [(4095, 255, 2**8)] * workers, (2**33, 0, 16, 2**16)
+    return arrays.Wave(256, racks, stands, [split] * splits, range(16), [(splits - 1, workers - 1)])
 
 
 ONE = (Cluster([Worker(0)]), [Split(10, [0])])
@@ -152,7 +152,7 @@ UNFIT_CALLS = [
      "worker 'a': 256 free slots, at most 255"),
     (lambda: plan(CLUSTER, {"blk_7": Split(2**34)}), Status.BAD_SPLITS,
      "split 'blk_7': 17,179,869,184 bytes, at most 8,589,934,592"),
-    (lambda: plan(CLUSTER, {"s": Split(1, ["a"] * 9)}), Status.BAD_SPLITS, "split 's': 9 holders, at most 8"),
+    (lambda: plan(CLUSTER, {"s": Split(1, ["a"] * 17)}), Status.BAD_SPLITS, "split 's': 17 holders, at most 16"),
     (lambda: plan(CLUSTER, {"s": Split(1, ["a", "a"])}), Status.BAD_HOLDERS, "split 's': worker 'a' holds it twice"),
     (lambda: plan(CLUSTER, {"s": Split(1, ["n"])}), Status.BAD_HOLDERS, "split 's': holder 'n' is no worker"),
     (lambda: plan(CLUSTER, {"s": Split(1, barred=["n"])}), Status.BAD_BARRED, "split 's': barred 'n' is no worker"),
@@ -198,7 +198,7 @@ def bounds():
         wave = wave_of(splits, workers)
         best = arrays.plan(wave, network)
         started = min(splits, workers * 255)
-        wanted = (started, max(0, started - 8 * 255) * 2 * 2**33)
+        wanted = (started, max(0, started - 16 * 255) * 2 * 2**33)
         pairs += [((best.count, best.cost), wanted), (best.starts[splits - 1] == workers - 1, False)]
         pairs += [(arrays.check(wave, best.starts, best.split_prices, best.worker_prices).condition, None)]
         unpriced = array("Q", best.split_prices)

@@ -38,9 +38,12 @@ class Master:
     def __init__(self, given):
         workers, splits = len(given.slots), len(given.bytes)
         self.given = given
+        self.names = {kind: [name.decode() for name in given.numbers[kind]] for kind in ("split", "worker")}
         self.parts = given.setting(b"parts", 1)
         self.target = given.setting(b"target", 3)
         self.silence = given.setting(b"silence", 3)
+        # to how many holders a split may grow
+        self.most_holders = 16 if given.version == 3 else 8
         self.events = 0
         self.next = 1
         # the problem that the last wave found, its count and its cost
@@ -120,7 +123,7 @@ class Master:
     def join(self, worker, splits):
         if self.live[worker]:
             return ["ignored 3"]
-        if any(len(self.holders[split]) == 8 for split in splits):
+        if any(len(self.holders[split]) >= self.most_holders for split in splits):
             return ["ignored 6"]
         self.live[worker], self.silent[worker] = True, 0
         for split in splits:
@@ -132,7 +135,7 @@ class Master:
             return ["ignored 2"]
         if worker in self.holders[split]:
             return ["ignored 4"]
-        if len(self.holders[split]) == 8:
+        if len(self.holders[split]) >= self.most_holders:
             return ["ignored 6"]
         self.holders[split].append(worker)
         return self.accepted()
@@ -194,10 +197,10 @@ class Master:
         return [f"copies {len(lines)}", *lines]
 
     def split(self, number):
-        return list(self.given.numbers["split"])[number].decode()
+        return self.names["split"][number]
 
     def worker(self, number):
-        return list(self.given.numbers["worker"])[number].decode()
+        return self.names["worker"][number]
 
     def wave(self, lines):
         """The lines of a wave, whose starts are those of the report's own lines."""

@@ -12,15 +12,20 @@ SHORT_NAME, LONG_NAME = re.compile(rb"[A-Za-z][A-Za-z0-9._-]{0,31}"), re.compile
 NAME = {1: SHORT_NAME, 2: SHORT_NAME, 3: LONG_NAME}
 NUMBER = re.compile(rb"0|[1-9][0-9]*")
 MAX_TEXT_BYTES = 16_777_216
-# The first line of a text that may have more, and how many it may have.
-LONG_HEAD, MAX_LONG_TEXT_BYTES = b"problem 3\n", 268_435_456
-MAX_HOLDERS = 8
-MAX_COMMANDS = 65_536
-# How many of a kind a text declares at most; a job has fewer workers.
-MOST = {"centre": 8, "rack": 32, "worker": 256, "split": 1024, "doc": 65_536}
+# The first lines of texts that may have more, and how many those may have.
+LONG_HEADS, MAX_LONG_TEXT_BYTES = (b"problem 3\n", b"script 3\n", b"job 3\n"), 268_435_456
+# How many holders a split has at most, by the text's version.
+MOST_HOLDERS = {1: 8, 2: 8, 3: 16}
+# How many commands a script has at most, and how many documents a script or a job, by its version.
+MOST_COMMANDS = {1: 65_536, 2: 65_536, 3: 1_048_576}
+MOST_DOCUMENTS = {1: 65_536, 2: 65_536, 3: 1_048_576}
+# How many of another kind a text declares at most; a job has fewer workers.
+MOST = {"centre": 8, "rack": 32, "worker": 256, "split": 1024}
 MOST_WORKERS_OF_A_JOB = 32
-# Of a text of version 3 to plan from or to check.
+# Of a text of version 3, and of a job.
 MOST_OF_3 = {"centre": 256, "rack": 4096, "worker": 32_768, "split": 131_072}
+MOST_OF_JOBS_3 = {**MOST_OF_3, "worker": 1024}
+MOST_BY_COMMAND_3 = {"check": MOST_OF_3, "plan": MOST_OF_3, "play": MOST_OF_3, "run": MOST_OF_JOBS_3}
 FIRST = {"check": b"problem", "plan": b"problem", "play": b"script", "run": b"job"}
 # The places after a keyword: a name, a number, any count of names or of numbers, or a name and a free text. A rack has
 # its centre from version 2 on.
@@ -132,8 +137,10 @@ class Given:
         return any(name in names for names in self.numbers.values())
 
     def most(self, kind):
-        if self.version == 3 and self.command in ("plan", "check"):
-            return MOST_OF_3[kind]
+        if kind == "doc":
+            return MOST_DOCUMENTS[self.version]
+        if self.version == 3:
+            return MOST_BY_COMMAND_3[self.command][kind]
         return MOST_WORKERS_OF_A_JOB if (kind, self.command) == ("worker", "run") else MOST[kind]
 
     def setting(self, name, otherwise):
@@ -215,7 +222,7 @@ def faults(given, keyword, words, shape):
     if keyword == b"price" and not (given.knows("split", names[0]) or given.knows("worker", names[0])):
         found.add(3)
     kind = keyword.decode()
-    if kind in MOST:
+    if kind in given.numbers:
         if given.is_taken(names[0]):
             found.add(4)
         if len(given.numbers[kind]) >= given.most(kind):
@@ -231,9 +238,9 @@ def faults(given, keyword, words, shape):
         found.add(5)
     if keyword == b"worker" and numbers[0] > MOST_SLOTS[given.version]:
         found.add(5)
-    if keyword == b"split" and len(names) - 1 > MAX_HOLDERS:
+    if keyword == b"split" and len(names) - 1 > MOST_HOLDERS[given.version]:
         found.add(6)
-    if keyword in COMMANDS and len(given.commands) >= MAX_COMMANDS:
+    if keyword in COMMANDS and len(given.commands) >= MOST_COMMANDS[given.version]:
         found.add(6)
     if keyword in (b"split", b"join") and len(set(names[1:])) < len(names) - 1:
         found.add(8)
@@ -282,7 +289,7 @@ def enter(given, keyword, words, text):
 
 def read(text, command):
     """What a text declares; raises its least fault, by line and then by number."""
-    if len(text) > (MAX_LONG_TEXT_BYTES if text.startswith(LONG_HEAD) else MAX_TEXT_BYTES):
+    if len(text) > (MAX_LONG_TEXT_BYTES if text.startswith(LONG_HEADS) else MAX_TEXT_BYTES):
         raise Fault(0, 11)
     *lines, rest = text.split(b"\n")
     given = Given(command)

@@ -24,10 +24,10 @@ import reference_play
 from reference_check import Wave
 from reference_text import read
 
-LONGEST = 65_535
+LONGEST = 524_287
 SESSIONS = 60
 LINES = 1_000_000
-EVENTS = 65_536
+EVENTS = 1_048_576
 # Longer than any answer takes: a master that says nothing fails a test, and doesn't stop the gate.
 PATIENCE = 300
 
@@ -380,7 +380,7 @@ def wrong_session(program, seed):
     faulty = [line for line, no in zip(told, is_refused) if no]
     # (a query is no line of a script)
     for line in [*faulty[:2], QUERIES[seed % len(QUERIES)]]:
-        # (a line of 65,536 bytes is short enough for a script)
+        # (a line of 524,288 bytes is short enough for a script)
         if ended(program, text_of([*head, "begin", line, "end"]), "play")[1] != 2:
             return f"play takes {line!r:.60}"
     return None

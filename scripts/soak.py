@@ -14,9 +14,8 @@
 - A script of 65,536 commands, more than 1,000 waves among them, followed by reference_play.py.
 - 100,000 events of 1,000 small clusters, a wave after almost each, by kept_waves.py: whether a wave's planner keeps up
   with slots and pending splits or goes over to other holders and bars, no assignment starts more or costs less.
-- 2,000 runs of check, plan, play and run, under limits that are drawn at random: on memory, address space, files,
-  threads and processor time (ten seconds at least), and but for `run` on the stack. Each ends by a status of the table.
-  Either it has the answer of a run without limits, or its status is 3, 4 or 6 and nothing was written. A worker of `run`
+- 2,000 runs of check, plan, play and run, under limits that are drawn at random: on memory, address space, the stack,
+  files, threads and processor time (ten seconds at least). Each ends by a status of the table. Either it has the answer of a run without limits, or its status is 3, 4 or 6 and nothing was written. A worker of `run`
   that finds no memory fails its attempt, so failures may fill the history (5), or bar each pair of a split (`stuck`).
 
 A failing seed can be run alone: with SEEDS="17 17" in the environment the tests of job_tests run
@@ -129,7 +128,7 @@ def memory(_program, sizes, _pool):
         shim = f"{room}/refuse.so"
         words = [kit() / "toolchain/bin/clang", "-O2", "-fPIC", "-shared", "-nostdlib", "-fuse-ld=lld"]
         subprocess.run([*words, "-o", shim, ROOT / "scripts/refuse_call.c"], check=True)
-        # (the C library keeps some ended threads' stacks, so the one job has 32 workers, as many as any)
+        # (the C library keeps some ended threads' stacks, so the one job has as many workers as any of the others)
         one, many = held_blocks(shim, 8, 8), held_blocks(shim, 1, sizes.held)
     if one != many:
         raise Failure(f"{one} blocks are held after one run, and {many} after {sizes.held}")
@@ -376,7 +375,7 @@ class Limited:
         return high
 
     def drawn(self, rnd, command):
-        """Some limits, each above what the loader wants. Threads take stacks as large as the limit on stacks."""
+        """Some limits, each above what the loader wants."""
         limits = {}
         if rnd.random() < 0.6:
             limits["as"] = self.least + int(2 ** rnd.uniform(12, 30))
@@ -388,7 +387,7 @@ class Limited:
             limits["nproc"] = rnd.randint(1, 80)
         if rnd.random() < 0.4:
             limits["cpu"] = rnd.randint(10, 20)
-        if rnd.random() < 0.4 and command != "run":
+        if rnd.random() < 0.4:
             limits["stack"] = int(2 ** rnd.uniform(17, 23))
         return limits
 

@@ -79,6 +79,8 @@ for program in "$@"; do
     expect "a job that is stuck" "$(given run < examples/run_stuck.txt)" 1 "$(cat examples/run_stuck.out)" nothing
     expect "a job in 64 MB of address space" "$(ulimit -v 64000; given run < examples/run_words.txt)" 0 \
         "$(cat examples/run_words.out)" nothing
+    expect "a job in a stack of 96 KiB" "$(ulimit -s 96; given run < examples/run_words.txt)" 0 \
+        "$(cat examples/run_words.out)" nothing
     expect "a job that is done" "$(given run < examples/run_words.txt)" 0 "$(cat examples/run_words.out)" nothing
     expect "more starts than the most attempts" \
         "$(scripts/make_texts.py full 1 | given play)" 5 nothing "mrjob: history full"

@@ -156,8 +156,8 @@ def faults(program: str, count: Count) -> None:
     count.holds("of equal splits the first starts, and by RarestFirst the rarest", first == [["any"], ["rare"]], first)
     count.holds("a wrong cost is refused", "do not come to" in refuses(Wrong(), wave))
     count.holds("a command that fails is told", "ended with" in refuses(Command("false plan"), wave))
-    many = {f"w{it}": Place(f"r{it}", f"c{it}") for it in range(257)}
-    for most, says in ((257, "257 workers"), (33, "33 racks"), (9, "9 data centres")):
+    many = {f"w{it}": Place(f"r{it}", f"c{it}") for it in range(32_769)}
+    for most, says in ((32_769, "32769 workers"), (4097, "4097 racks"), (257, "257 data centres")):
         try:
             wave_of(dict([*many.items()][:most]), {}, {})
             said = ""
@@ -165,12 +165,12 @@ def faults(program: str, count: Count) -> None:
             said = str(why)
         count.holds(f"there may not be {says}", f"there are {says}" in said, said)
     wide = wave_of(
-        {f"w{it}": Place("r") for it in range(9)}, {"w0": 256, "w1": 1},
-        {f"s{it}": Split(1 << 34, [f"w{at}" for at in range(9)], []) for it in range(1025)},
+        {f"w{it}": Place("r") for it in range(17)}, {"w0": 256, "w1": 1},
+        {f"s{it}": Split(1 << 34, [f"w{at}" for at in range(17)], []) for it in range(1025)},
     )
     shape = len(wide.splits), max(len(it.holders) for it in wide.splits.values()), wide.slots["w0"]
     plan = planner_of(f"{program} plan", True).plan(wide)
-    count.holds("a wave takes 1,024 blocks, 8 holders and 255 slots", shape == (1024, 8, 255), shape)
+    count.holds("a wave takes 1,024 blocks, 16 holders and 255 slots", shape == (1024, 16, 255), shape)
     count.holds("blocks of 16 GiB are planned in units of 2 bytes", (len(plan.starts), plan.unit) == (256, 2), plan.unit)
 
 

@@ -16,7 +16,7 @@ import mrjob_plan
 import mrjob_plan.library
 
 # What a wave may have at most (docs/MODEL.md).
-WORKERS, RACKS, CENTRES, HOLDERS, SLOTS, BYTES = 256, 32, 8, 8, 255, 8_589_934_592
+WORKERS, RACKS, CENTRES, HOLDERS, SLOTS, BYTES = 32_768, 4096, 256, 16, 255, 8_589_934_592
 # And of how many splits one is asked here, since all of them are gone through for each wave.
 SPLITS = 1024
 

@@ -21,7 +21,7 @@ REASONS = {
     3: "the worker lives",
     4: "the worker holds the split",
     5: "the worker does not hold the split",
-    6: "a split has eight holders",
+    6: "a split has eight holders, or sixteen in version 3",
     7: "the reduce attempt or the backup may not start now",
     8: "the result is of another text, part or number of parts",
     9: "no place is left for the event, the attempts or the sweep",

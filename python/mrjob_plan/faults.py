@@ -22,7 +22,7 @@ class Status(IntEnum):
 WORDS = {
     Status.BAD_RACKS: "there are more than 256 data centres or 4,096 racks, or a rack is in no data centre",
     Status.BAD_WORKERS: "there are more than 32,768 workers, or one is in no rack or has more than 255 slots",
-    Status.BAD_SPLITS: "there are more than 131,072 splits, or one has more than 8,589,934,592 bytes or 8 holders, "
+    Status.BAD_SPLITS: "there are more than 131,072 splits, or one has more than 8,589,934,592 bytes or 16 holders, "
     "or a holder past the last",
     Status.BAD_BARRED: "a barred pair is of no split or of no worker",
     Status.BAD_HOLDERS: "a holder is no worker, or stands twice at one split",

@@ -17,7 +17,7 @@ MAX_WIDE_SPLITS = 131072
 # Of a plan over the direct network.
 MAX_DIRECT_SPLITS = 1024
 MAX_DIRECT_WORKERS = 256
-MAX_HOLDERS = 8
+MAX_HOLDERS = 16
 MAX_SLOTS = 255
 MAX_BYTES = 8589934592
 # In a place of a worker or a split: none. Workers and splits are numbered below it.

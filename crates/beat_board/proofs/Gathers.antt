@@ -52,15 +52,15 @@ at_elem (x ∷ xs) zero r e = some-injective x r e
 at_elem (x ∷ xs) (suc i) r e = at_elem xs i r e
 
 -- one word more is read
-pub filled : (beats ws : List ℕ) (i r : ℕ) → length beats ≡ 256 → i < 256 → get_elem? ws i ≡ some r
+pub filled : (beats ws : List ℕ) (i r : ℕ) → length beats ≡ 1024 → i < 1024 → get_elem? ws i ≡ some r
     → ((k : ℕ) → k < i → slice_index beats k ≡ slice_index ws k)
-    → (length (set beats i r) ≡ 256)
+    → (length (set beats i r) ≡ 1024)
     × ((k : ℕ) → k < i + 1 → slice_index (set beats i r) k ≡ slice_index ws k)
 filled beats ws i r len lt e old = grind (arith, length-set, get_or-set_same, at_elem, get_or-set_other)
 
 -- all words are read
-pub all_filled : (beats ws : List ℕ) → length beats ≡ 256 → length ws ≡ 256
-    → ((k : ℕ) → k < 256 → slice_index beats k ≡ slice_index ws k) → beats ≡ ws
+pub all_filled : (beats ws : List ℕ) → length beats ≡ 1024 → length ws ≡ 1024
+    → ((k : ℕ) → k < 1024 → slice_index beats k ≡ slice_index ws k) → beats ≡ ws
 all_filled beats ws len wide h =
     ext_get_or 0 beats ws (omega (arith, len, wide)) (λ i lt. h i (omega (arith, len)))
 

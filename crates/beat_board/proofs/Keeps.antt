@@ -152,7 +152,7 @@ told_rises : (words : List ℕ) (i n m : ℕ) (old : List ℕ) → i < length wo
     ≡ up_to f words k + told_worth k f (seated i (n + 1) (m ∷ old))
 told_rises words i n m old here is k f = grind (arith, at_word, told_here, sum_by-cons, told_else)
 
-beats : (id i n slots : ℕ) (told : List ℕ) → i < 256 → n < 2 ^ 40
+beats : (id i n slots : ℕ) (told : List ℕ) → i < 1024 → n < 2 ^ 40
     → Allows Rule slots id (seated i n told, []) i (λ k. (k + 1) % 2 ^ 64)
     (Beats (step slots i 1 0 none) (seated i n told, []))
 beats id i n slots told lt small s h homes at fits =
@@ -195,7 +195,7 @@ beats id i n slots told lt small s h homes at fits =
     )
 
 pub beats_as : (id slots : ℕ) (m : Me ℕ View) (i n : ℕ) (told : List ℕ) → m.0 ≡ seated i n told → m.1 ≡ []
-    → i < 256
+    → i < 1024
     → n < 2 ^ 40 → Allows Rule slots id m i (λ k. (k + 1) % 2 ^ 64) (Beats (step slots i 1 0 none) m)
 beats_as id slots m i n told e f lt small =
     subst (λ x. Allows Rule slots id x i (λ k. (k + 1) % 2 ^ 64) (Beats (step slots i 1 0 none) x))
@@ -433,8 +433,8 @@ no_told k f v e = grind (arith, common_steps)
 -- that was told are the numbers up to the word; and what it saw is within the words
 pub record Gathered (words : List ℕ) (ts : List Tally) (xs : List Look) (made : ℕ) : Type 0 where
   pub few : length ts ≤ made
-  pub sums : made ≤ length ts → (k : ℕ) → k < 256 → slice_index words k ≡ beats_of k ts
-  pub told : made ≤ length ts → (k : ℕ) → k < 256 → (f : ℕ → ℕ) → told_of k f ts ≡ up_to f words k
+  pub sums : made ≤ length ts → (k : ℕ) → k < 1024 → slice_index words k ≡ beats_of k ts
+  pub told : made ≤ length ts → (k : ℕ) → k < 1024 → (f : ℕ → ℕ) → told_of k f ts ≡ up_to f words k
   pub seen : AreWithin words xs
 
 pub gathered : (words : List ℕ) (views : List View) (ts : List Tally) (xs : List Look) (next made : ℕ)

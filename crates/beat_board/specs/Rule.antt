@@ -28,7 +28,7 @@ pub record Fits (words : List ℕ) (v : View) : Type 0 where
 -- the first view is the maker's, which knows how many seats were made; a worker's beats are told the
 -- numbers up to its word, each once
 pub record AreCounted (words : List ℕ) (views : List View) : Type 0 where
-  pub width : length words ≡ 256
+  pub width : length words ≡ 1024
   pub sums : (w : ℕ) → w < length words → slice_index words w ≡ sum_by (λ v. beats_of w v.tallies) views
   pub told : (w : ℕ) → w < length words → (weight : ℕ → ℕ)
       → sum_by (λ v. told_of w weight v.tallies) views ≡ sum_by weight (down_from (slice_index words w))

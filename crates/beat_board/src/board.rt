@@ -31,8 +31,8 @@ impl Model for Board {
 
     ghost view = { λ b. record { board = b.table.shared.table_id; workers = b.workers } };
 
-    ghost invariant = { λ b. (b.table.shared.table_id.words ≡ 256) × (b.table.shared.table_id.slots ≡ 0)
-        × (b.workers ≤ 256) };
+    ghost invariant = { λ b. (b.table.shared.table_id.words ≡ 1024) × (b.table.shared.table_id.slots ≡ 0)
+        × (b.workers ≤ 1024) };
 }
 
 /// Why no seat or reader was made.
@@ -75,9 +75,9 @@ pub struct Missing {
 
 impl Board {
     /// A board for so many workers, numbered from 0, and the one maker of its seats and readers. It takes
-    /// all its memory here: 2 KiB.
+    /// all its memory here: 8 KiB.
     pub fn new(alloc: Global, workers: usize) -> Result<(Board, Maker), AllocError>
-        requires { workers ≤ 256 }
+        requires { workers ≤ 1024 }
         ensures workers { IfOk result (λ r. r.0.workers ≡ workers) }
         ensures maker { IfOk result (λ r. r.1 ≡ record { board = r.0.board; seats = 0; readers = 0 }) }
     {
@@ -205,9 +205,9 @@ impl Board {
         requires seats { All (λ s. s.board ≡ self.board) seats.items }
         requires readers { All (λ r. r.board ≡ self.board) readers.items }
         ensures complete { IsOk result ↔ (length seats.items ≡ maker.seats) }
-        ensures totals { IfOk result (λ t. (w : ℕ) → w < 256
+        ensures totals { IfOk result (λ t. (w : ℕ) → w < 1024
             → slice_index t.beats w ≡ beats_by w seats.items) }
-        ensures told { IfOk result (λ t. (w : ℕ) → w < 256
+        ensures told { IfOk result (λ t. (w : ℕ) → w < 1024
             → AreToldOnce w (slice_index t.beats w) seats.items) }
         ensures seen { IfOk result (λ t. All (λ r. AreWithin t.beats r.looks) readers.items) }
         ensures missing { IfErr result (λ m. length seats.items + m.count ≡ maker.seats) }
@@ -233,8 +233,8 @@ impl Board {
         requires readers { All (λ r. r.board ≡ self.board) readers.items }
         requires all { maker.seats ≤ length seats.items }
         ensures made { length seats.items ≡ maker.seats }
-        ensures sums { (w : ℕ) → w < 256 → slice_index result.beats w ≡ beats_by w seats.items }
-        ensures told { (w : ℕ) → w < 256 → AreToldOnce w (slice_index result.beats w) seats.items }
+        ensures sums { (w : ℕ) → w < 1024 → slice_index result.beats w ≡ beats_by w seats.items }
+        ensures told { (w : ℕ) → w < 1024 → AreToldOnce w (slice_index result.beats w) seats.items }
         ensures seen { All (λ r. AreWithin result.beats r.looks) readers.items }
     {
         let Board { table, workers: _ } = self;
@@ -253,15 +253,15 @@ impl Board {
 }
 
 fn zeros() -> [u64; MAX_WORKERS]
-    ensures length { length result ≡ 256 }
-    ensures zeros { (k : ℕ) → k < 256 → slice_index result k ≡ 0 }
+    ensures length { length result ≡ 1024 }
+    ensures zeros { (k : ℕ) → k < 1024 → slice_index result k ≡ 0 }
 {
     [0; MAX_WORKERS]
 }
 
 // The words of a closed board.
 fn words_of(closed: &Closed<u8, Global>) -> [u64; MAX_WORKERS]
-    requires { IsFull closed.now.words × (slots_len closed.now.words ≡ 256) }
+    requires { IsFull closed.now.words × (slots_len closed.now.words ≡ 1024) }
     ensures { result ≡ slots_items closed.now.words }
 {
     let mut beats = zeros();
@@ -273,7 +273,7 @@ fn words_of(closed: &Closed<u8, Global>) -> [u64; MAX_WORKERS]
 
 // Joins all seats to the maker's token.
 fn gather_seats(shared: &Shared<u8, View, (), Sums>, token: &mut Token, mut seats: Vec<Seat>)
-    requires board { (token.old.table_id ≡ shared.now.table_id) × (shared.now.table_id.words ≡ 256) }
+    requires board { (token.old.table_id ≡ shared.now.table_id) × (shared.now.table_id.words ≡ 1024) }
     requires maker { (token.old.id ≡ 0)
         × (token.old.me.0 ≡ making [] [] token.old.me.0.next token.old.me.0.made) }
     requires seats { All (λ s. s.board ≡ shared.now.table_id) seats.items }
@@ -297,7 +297,7 @@ fn gather_seats(shared: &Shared<u8, View, (), Sums>, token: &mut Token, mut seat
 
 // Joins all readers to the maker's token, which has the seats.
 fn gather_readers(shared: &Shared<u8, View, (), Sums>, token: &mut Token, mut readers: Vec<Reader>)
-    requires board { (token.old.table_id ≡ shared.now.table_id) × (shared.now.table_id.words ≡ 256) }
+    requires board { (token.old.table_id ≡ shared.now.table_id) × (shared.now.table_id.words ≡ 1024) }
     requires readers { All (λ r. r.board ≡ shared.now.table_id) readers.items }
     ensures same { (token.new.table_id ≡ token.old.table_id) × (token.new.id ≡ token.old.id)
         × (token.new.me.1 ≡ token.old.me.1) }

@@ -43,7 +43,7 @@ pub use board::{Board, Missing, SeatError, Totals, Worn};
 pub use tokens::{Maker, Reader, Seat};
 
 /// How many workers a board has at most.
-pub const MAX_WORKERS: usize = 256;
+pub const MAX_WORKERS: usize = 1024;
 
 /// How many seats and readers together are made of one board.
 pub const MAX_SEATS: u64 = 4096;

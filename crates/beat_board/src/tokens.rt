@@ -56,7 +56,7 @@ impl Model for Seat {
 
     ghost invariant = { λ s. (s.token.me.1 ≡ [])
         × (s.token.me.0 ≡ seated s.worker s.beats (answers s.token.me.0.tallies))
-        × (s.beats ≤ 2 ^ 40) × (s.worker < 256) };
+        × (s.beats ≤ 2 ^ 40) × (s.worker < 1024) };
 }
 
 /// The right to look at the words of one board. What it saw is known to contracts alone, and takes no memory.

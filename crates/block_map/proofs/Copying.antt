@@ -22,7 +22,7 @@ target_skip h s i None off none = grind arith
 target_skip h s i (Some to) off best = grind arith
 
 -- of two workers the one with fewer replicas beside it, or the lower one
-fewest_first : (h : Holdings) (s v w : ℕ) → replicas_beside h s v ≤ replicas_beside h s w → v ≤ w →
+pub fewest_first : (h : Holdings) (s v w : ℕ) → replicas_beside h s v ≤ replicas_beside h s w → v ≤ w →
     IsNoWorse h s v w
 fewest_first h s v w few low = grind arith
 
@@ -45,7 +45,7 @@ target_next h s i best on below better = (
   no_worse (Some b) best better w before may = no_worse-trans h s i b w better (best.2 w before may)
 
 -- the next worker is no better
-target_stays : (h : Holdings) (s i b : ℕ) → IsTargetBelow h s i (Some b) → IsNoWorse h s b i →
+pub target_stays : (h : Holdings) (s i b : ℕ) → IsTargetBelow h s i (Some b) → IsNoWorse h s b i →
     IsTargetBelow h s (i + 1) (Some b)
 target_stays h s i b best no_worse = (
   omega (arith, best.0),

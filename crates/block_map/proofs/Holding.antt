@@ -5,14 +5,14 @@ use Rattle.std.specs.List.Retain.{RetainsInTurn}
 use Rattle.std.specs.List.{enumerate_from}
 use Rattle.std.proofs.lemmas.List.{length-map}
 use Rattle.std.proofs.lemmas.List.FromFn.{length-enumerate_from}
-use Rattle.node_ids.specs.Sets.{has_number}
+use Rattle.node_ids.specs.Sets.{is_in_row}
 use Rattle.block_map.specs.Holdings.{with_holder_of_all}
 
 pub length-with_holder_of_all : (lists : List (List ℕ)) (set : List ℕ) (w : ℕ) →
     length (with_holder_of_all lists set w) ≡ length lists
 length-with_holder_of_all lists set w =
     length-map (enumerate_from 0 lists)
-    (λ (place : ℕ × List ℕ). if has_number set place.0 then place.1 ++ w ∷ [] else place.1)
+    (λ (place : ℕ × List ℕ). if is_in_row set place.0 then place.1 ++ w ∷ [] else place.1)
     ∙ length-enumerate_from 0 lists
 
 -- what a test keeps that changes nothing

@@ -1,7 +1,9 @@
 -- Which copies are to be made, so that each split comes nearer to its target.
-use Rattle.std.specs.Prelude.{ℕ, ◌≡◌, ◌<◌, ◌≤◌, ◌⊎◌, ◌==◌, ◌&&◌, Bool, true, not, min, List, map, length}
+use Rattle.std.specs.Prelude.{ℕ, zero, suc, ◌≡◌, ◌<◌, ◌≤◌, ◌⊎◌, ◌==◌, ◌&&◌, Bool, true, not, min, nat_lt}
+use Rattle.std.specs.Prelude.{if◌then◌else◌, Option, Some, None, List, [], ◌∷◌, ◌++◌, map, fold, length}
 use Rattle.std.specs.Prelude.{slice_index, count_by, All, Contains}
 use Rattle.std.specs.List.Sorted.{IsStrictlyIncreasing}
+use Rattle.std.specs.Option.{option_map}
 use Rattle.rack_tree.specs.Tree.{Tree}
 use Rattle.worker_table.specs.Workers.{Workers, is_live}
 use Rattle.block_map.specs.Holdings.{holders_of, is_holder}
@@ -56,3 +58,45 @@ pub record AreCopies (h : Holdings) (orders : List CopyOrder) : Type 0 where
   pub rising : IsStrictlyIncreasing (map (λ order. order.split) orders)
   pub each : All (IsCopy h) orders
   pub all : (s : ℕ) → WantsCopy h s → Contains (map (λ order. order.split) orders) s
+
+-- ---- the same copies, computed
+
+abbrev pub wants_copy : Holdings → ℕ → Bool
+wants_copy h s =
+    nat_lt 0 (length (holders_of h.lists s))
+    && nat_lt (length (holders_of h.lists s)) (min h.target (live_count h.workers))
+
+abbrev pub lowest_of : List ℕ → ℕ
+lowest_of [] = 0
+lowest_of (n ∷ numbers) = fold min n numbers
+
+-- the best of the workers up to w, where this is the best below w
+abbrev pub better : Holdings → ℕ → Option ℕ → ℕ → Option ℕ
+better h s None w = if may_hold h s w then Some w else None
+better h s (Some b) w =
+    if may_hold h s w && nat_lt (replicas_beside h s w) (replicas_beside h s b) then Some w else Some b
+
+-- the worker to copy to, among those below n
+abbrev pub best_below : Holdings → ℕ → ℕ → Option ℕ
+best_below h s zero = None
+best_below h s (suc n) = better h s (best_below h s n) n
+
+-- the copy of the split, if it wants one
+abbrev pub copy_at : Holdings → ℕ → Option CopyOrder
+copy_at h s =
+    if wants_copy h s
+    then option_map (λ to. record { split = s; from = lowest_of (holders_of h.lists s); to = to })
+    (best_below h s (length h.workers.each))
+    else None
+
+abbrev pub one_or_none : Option CopyOrder → List CopyOrder
+one_or_none None = []
+one_or_none (Some order) = order ∷ []
+
+-- the copies of the splits below n
+abbrev pub copies_below : Holdings → ℕ → List CopyOrder
+copies_below h zero = []
+copies_below h (suc n) = copies_below h n ++ one_or_none (copy_at h n)
+
+abbrev pub all_copies : Holdings → List CopyOrder
+all_copies h = copies_below h (length h.lists)

@@ -1,7 +1,7 @@
-ghost use Rattle.std.specs.Prelude.{◌≡◌, ℕ, ◌<◌, ◌≤◌, true, length, All, Contains, IfOk};
+ghost use Rattle.std.specs.Prelude.{◌≡◌, ℕ, ◌<◌, ◌≤◌, ◌&&◌, true, nat_lt, length, All, Contains, IfOk};
 ghost use Rattle.block_map.specs.Holdings.{holders_of};
-ghost use Rattle.block_map.specs.Copies.{AreCopies, IsCopy, IsNoWorse, WantsCopy, holdings, live_count};
-ghost use Rattle.block_map.specs.Copies.{may_hold, replicas_in};
+ghost use Rattle.block_map.specs.Copies.{IsCopy, IsNoWorse, WantsCopy, all_copies, copy_at, holdings};
+ghost use Rattle.block_map.specs.Copies.{live_count, may_hold, replicas_in};
 ghost use Rattle.rack_tree.specs.Tree.{Tree};
 
 use crate::{BlockMap, CopyOrder};
@@ -10,6 +10,7 @@ use rack_tree::RackTree;
 use std::alloc::{AllocError, Global};
 use worker_table::WorkerTable;
 
+/// The copies of all splits, by rising split.
 pub(crate) fn copy_orders(
     alloc: Global,
     blocks: &BlockMap,
@@ -20,18 +21,61 @@ pub(crate) fn copy_orders(
     requires racks { length tree.now.rack_of ≡ length table.now.each }
     requires holders { All (All (λ h. h < length table.now.each)) blocks.now }
     ensures { IfOk result (λ orders.
-        AreCopies (holdings table.now tree.now blocks.now target) orders.items) }
+        orders.items ≡ all_copies (holdings table.now tree.now blocks.now target)) }
 {
-    let limit = target.min(live_count(table));
     let mut orders = Vec::new(alloc);
     for i in 0..blocks.splits() {
-        let split = SplitNo::new(i as u32);
-        let count = blocks.holders(split).len();
-        if 0 < count && count < limit {
-            orders.push(copy_of(blocks, table, tree, split))?;
+        if let Some(order) = copy_order(blocks, table, tree, target, SplitNo::new(i as u32)) {
+            orders.push(order)?;
         }
     }
     Ok(orders)
+}
+
+/// How many copies that are.
+pub(crate) fn copy_count(blocks: &BlockMap, table: &WorkerTable, target: usize) -> usize
+    ensures { (tree : Tree)
+        → result ≡ length (all_copies (holdings table.now tree blocks.now target)) }
+{
+    let limit = target.min(live_count(table));
+    let mut count = 0;
+    for i in 0..blocks.splits() {
+        if is_between(blocks, SplitNo::new(i as u32), limit) {
+            count += 1;
+        }
+    }
+    count
+}
+
+/// The copy of a split, if it wants one.
+pub(crate) fn copy_order(
+    blocks: &BlockMap,
+    table: &WorkerTable,
+    tree: &RackTree,
+    target: usize,
+    split: SplitNo,
+) -> Option<CopyOrder>
+    requires racks { length tree.now.rack_of ≡ length table.now.each }
+    requires holders { All (λ h. h < length table.now.each) (holders_of blocks.now split) }
+    requires known { split < length blocks.now }
+    ensures { result ≡ copy_at (holdings table.now tree.now blocks.now target) split }
+{
+    let limit = target.min(live_count(table));
+    if is_between(blocks, split, limit) {
+        Some(copy_of(blocks, table, tree, split))
+    } else {
+        None
+    }
+}
+
+// Whether the split has a holder, and fewer than the limit.
+fn is_between(blocks: &BlockMap, split: SplitNo, limit: usize) -> bool
+    requires { split < length blocks.now }
+    ensures { result ≡ (nat_lt 0 (length (holders_of blocks.now split))
+        && nat_lt (length (holders_of blocks.now split)) limit) }
+{
+    let count = blocks.holders(split).len();
+    0 < count && count < limit
 }
 
 fn live_count(table: &WorkerTable) -> usize

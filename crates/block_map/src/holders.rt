@@ -1,17 +1,18 @@
 ghost use Rattle.std.specs.Prelude.{◌≡◌, ◌<◌, ◌≤◌, ◌++◌, ◌∷◌, [], ◌==◌, length, List, ℕ};
 ghost use Rattle.std.specs.List.{list_any};
-ghost use Rattle.block_map.specs.Holdings.{are_eight, without};
+ghost use Rattle.block_map.specs.Holdings.{are_full, without};
 
+use crate::HolderLimit;
 use node_ids::WorkerNo;
 use smallvec::SmallVec;
 use std::alloc::Global;
 use std::marker::Model;
 
-/// The holders of one split, at most eight, in the order in which they were added. They are kept
-/// inline: no call takes memory.
+/// The holders of one split, at most 16, in the order in which they were added. They are kept inline: no call
+/// takes memory.
 #[derive(Drop)]
 pub(crate) struct Holders {
-    workers: SmallVec<WorkerNo, 8>,
+    workers: SmallVec<WorkerNo, 16>,
 }
 
 impl Model for Holders {
@@ -19,7 +20,7 @@ impl Model for Holders {
 
     ghost view = { λ h. h.workers.items };
 
-    ghost invariant = { λ h. (length h.workers.items ≤ 8) × (h.workers.capacity ≡ 8) };
+    ghost invariant = { λ h. (length h.workers.items ≤ 16) × (h.workers.capacity ≡ 16) };
 }
 
 impl Holders {
@@ -34,7 +35,7 @@ impl Holders {
 
     /// These holders, in this order.
     pub(crate) fn of(alloc: Global, workers: &[WorkerNo]) -> Holders
-        requires { length workers.now ≤ 8 }
+        requires { length workers.now ≤ 16 }
         ensures { result ≡ workers.now }
     {
         let mut holders = Holders::new(alloc);
@@ -46,7 +47,7 @@ impl Holders {
 
     pub(crate) fn as_slice(&self) -> &[WorkerNo]
         ensures value { result.now ≡ self.now }
-        ensures few { length self.now ≤ 8 }
+        ensures few { length self.now ≤ 16 }
     {
         self.workers.as_slice()
     }
@@ -57,14 +58,14 @@ impl Holders {
         self.workers.as_slice().contains(&worker)
     }
 
-    pub(crate) fn is_full(&self) -> bool
-        ensures { result ≡ are_eight self.now }
+    pub(crate) fn is_full(&self, limit: HolderLimit) -> bool
+        ensures { result ≡ are_full limit self.now }
     {
-        self.workers.len() >= 8
+        self.workers.len() >= limit.most()
     }
 
     pub(crate) fn add(&mut self, worker: WorkerNo)
-        requires { length self.old < 8 }
+        requires { length self.old < 16 }
         ensures { self.new ≡ self.old ++ worker ∷ [] }
     {
         self.workers.push_reserved(worker);

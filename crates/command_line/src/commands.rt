@@ -161,7 +161,8 @@ const RUN_ABOUT: &str =
 const HISTORY_HELP: &str = "Writes first all that was done, one event after another";
 
 const RUN_TEXTS: &str = "\
-Input:   a job, as text on standard input: a cluster of at most 32 workers, and its documents
+Input:   a job, as text on standard input: a cluster and its documents; at most 32 workers, and in
+         version 3 1,024
 Output:  the index of the documents, or the splits that are not done; or `line LINE: fault NUMBER`;
          with --history, before these, what was done in the words of a script and its report
 Deaths:  a worker whose thread gets no processor for some twice as many seconds as `silence` says,

@@ -1,14 +1,11 @@
 -- How counts read over bases that go on, and how they are made one by one.
-use Rattle.std.proofs.Common.{◌≡◌, ℕ, zero, suc, ◌+◌, ◌-◌, ◌%◌, ◌^◌, ◌<◌, ◌≤◌, List, [], ◌∷◌, ◌++◌, length}
-use Rattle.std.proofs.Common.{All, take, get_or, slice_get, slice_index_or, Some, refl, sym, ap, ◌∙◌, arith}
-use Rattle.std.specs.Prelude.{replicate}
-use Rattle.std.proofs.Math.ListN.{set}
+use Rattle.std.proofs.Common.{◌≡◌, ℕ, zero, suc, ◌+◌, ◌-◌, ◌%◌, ◌^◌, ◌<◌, List, [], ◌∷◌, ◌++◌, length}
+use Rattle.std.proofs.Common.{All, take, get_or, slice_get, slice_index_or, Some, refl, ap, ◌∙◌, arith}
 use Rattle.std.proofs.Math.Nat.{mod-eq_of_lt}
-use Rattle.std.proofs.lemmas.Grind.{get_or-set_at, take_at_read}
-use Rattle.std.proofs.lemmas.List.{get_or_append_left, length-set, take-set}
+use Rattle.std.proofs.lemmas.List.{get_or_append_left}
 use Rattle.std.proofs.lemmas.List.Elements.{All-head, All-tail}
 use Rattle.std.proofs.lemmas.Option.{none-some, same_Some}
-use Rattle.compact_lists.specs.Counts.{counts_from, counts_over}
+use Rattle.compact_lists.specs.Counts.{AreNear, counts_from, counts_over, rises_over}
 
 pub length-over : (bases : List (List ℕ)) (numbers : List ℕ) (rises : List (List ℕ)) →
     length rises ≡ length numbers → length (counts_over bases numbers rises) ≡ length numbers
@@ -54,17 +51,6 @@ over_more bases (base ∷ numbers) (first ∷ rises) n own same =
     ap (λ rest. counts_from (slice_index_or bases base []) first ∷ rest)
     (over_more bases numbers rises n own (omega arith))
 
--- a count more
-counts_more : (base rises : List ℕ) (i c d : ℕ) → i < length base → i < length rises →
-    counts_from (take (i + 1) base) (take (i + 1) rises)
-    ≡ counts_from (take i base) (take i rises) ++ (get_or base i c + get_or rises i d) % 2 ^ 64 ∷ []
-counts_more [] rises i c d lt less = absurd (omega arith)
-counts_more (b ∷ base) [] i c d lt less = absurd (omega arith)
-counts_more (b ∷ base) (r ∷ rises) zero c d lt less = refl
-counts_more (b ∷ base) (r ∷ rises) (suc i) c d lt less =
-    let next : suc i + 1 ≡ suc (i + 1) = omega arith in
-    rw next (ap (λ counts. (b + r) % 2 ^ 64 ∷ counts) (counts_more base rises i c d (omega arith) (omega arith)))
-
 -- each count, and how many there are
 pub from_at : (base rises : List ℕ) (i c d : ℕ) → length base ≡ length rises → i < length base →
     get_or (counts_from base rises) i 0 ≡ (get_or base i c + get_or rises i d) % 2 ^ 64
@@ -79,35 +65,39 @@ length-from [] rises same = refl
 length-from (b ∷ base) [] same = absurd (omega arith)
 length-from (b ∷ base) (r ∷ rises) same = ap suc (length-from base rises (omega arith))
 
--- counts over themselves, of which none rises
-pub from_zero : (counts : List ℕ) (n : ℕ) → length counts ≡ n → All (λ c. c < 2 ^ 64) counts →
-    counts_from counts (replicate n 0) ≡ counts
-from_zero [] n is all = refl
-from_zero (c ∷ counts) zero is all = absurd (omega arith)
-from_zero (c ∷ counts) (suc n) is all =
+pub length-rises : (base counts : List ℕ) → length base ≡ length counts →
+    length (rises_over base counts) ≡ length counts
+length-rises [] [] same = refl
+length-rises [] (c ∷ counts) same = absurd (omega arith)
+length-rises (b ∷ base) [] same = absurd (omega arith)
+length-rises (b ∷ base) (c ∷ counts) same = ap suc (length-rises base counts (omega arith))
+
+-- counts are near themselves
+pub near_itself : (counts : List ℕ) → AreNear counts counts
+near_itself counts i less = (omega arith, omega arith)
+
+-- the rises lead back to the counts
+pub from_rises : (base counts : List ℕ) → length base ≡ length counts → All (λ c. c < 2 ^ 64) counts →
+    AreNear base counts → counts_from base (rises_over base counts) ≡ counts
+from_rises [] [] same all near = refl
+from_rises [] (c ∷ counts) same all near = absurd (omega arith)
+from_rises (b ∷ base) [] same all near = absurd (omega arith)
+from_rises (b ∷ base) (c ∷ counts) same all near =
     let Fits : ℕ → Type 0 = λ c. c < 2 ^ 64 in
-    let none : c + 0 ≡ c = omega arith in
-    let first : (c + 0) % 2 ^ 64 ≡ c = ap (λ n. n % 2 ^ 64) none ∙ mod-eq_of_lt (All-head Fits c counts all) in
-    let others = from_zero counts n (omega arith) (All-tail Fits c counts all) in
+    let sum : b + (c - b) ≡ c = omega (arith, (near 0 (omega arith)).0) in
+    let first : (b + (c - b)) % 2 ^ 64 ≡ c =
+    ap (λ n. n % 2 ^ 64) sum ∙ mod-eq_of_lt (All-head Fits c counts all) in
+    let others = from_rises base counts (omega arith) (All-tail Fits c counts all)
+    (λ i less. near (suc i) (omega (arith, less))) in
     λ k. first k ∷ others k
 
--- a rise more, which leads back to its count
-pub rises_more : (base counts rises : List ℕ) (i : ℕ) → i < length base → i < length counts →
-    i < length rises →
-    get_or base i 0 ≤ get_or counts i 0 → get_or counts i 0 < 2 ^ 64 →
-    counts_from (take i base) (take i rises) ≡ take i counts →
-    counts_from (take (i + 1) base) (take (i + 1) (set rises i (get_or counts i 0 - get_or base i 0)))
-    ≡ take (i + 1) counts
-rises_more base counts rises i in_base in_counts in_rises le fits was =
-    let low = get_or base i 0 in
-    let count = get_or counts i 0 in
-    let more = set rises i (count - low) in
-    let there : i < length more = omega (arith, length-set rises i (count - low), in_rises) in
-    let sum : low + (count - low) ≡ count = omega (arith, le) in
-    let read : (low + get_or more i 0) % 2 ^ 64 ≡ count =
-    ap (λ r. (low + r) % 2 ^ 64) (get_or-set_at rises i i (count - low) 0 refl in_rises)
-    ∙ ap (λ s. s % 2 ^ 64) sum ∙ mod-eq_of_lt fits in
-    let before : counts_from (take i base) (take i more) ≡ take i counts =
-    ap (counts_from (take i base)) (take-set rises i (count - low)) ∙ was in
-    counts_more base more i 0 0 in_base there ∙ (λ k. before k ++ read k ∷ [])
-    ∙ sym (take_at_read counts i 0 in_counts).1
+-- a rise more
+pub rises_more : (base counts : List ℕ) (i : ℕ) → i < length base → i < length counts →
+    rises_over (take (i + 1) base) (take (i + 1) counts)
+    ≡ rises_over (take i base) (take i counts) ++ (get_or counts i 0 - get_or base i 0) ∷ []
+rises_more [] counts i in_base in_counts = absurd (omega arith)
+rises_more (b ∷ base) [] i in_base in_counts = absurd (omega arith)
+rises_more (b ∷ base) (c ∷ counts) zero in_base in_counts = refl
+rises_more (b ∷ base) (c ∷ counts) (suc i) in_base in_counts =
+    let next : suc i + 1 ≡ suc (i + 1) = omega arith in
+    rw next (ap (λ rises. (c - b) ∷ rises) (rises_more base counts i (omega arith) (omega arith)))

@@ -1,18 +1,38 @@
 -- How entries read where lists go on, and which of them are one event.
-use Rattle.std.proofs.Common.{◌≡◌, ℕ, ◌<◌, Bool, true, false, List, [], ◌∷◌, length, map, All, get_or, Some}
-use Rattle.std.proofs.Common.{if◌then◌else◌, refl, sym, ap, ◌∙◌}
-use Rattle.std.specs.Prelude.{◌↔◌, slice_get}
+use Rattle.std.proofs.Common.{◌≡◌, ℕ, ◌<◌, Bool, true, false, List, [], ◌∷◌, ◌++◌, length, map, All, get_or}
+use Rattle.std.proofs.Common.{Some, if◌then◌else◌, refl, sym, ap, ◌∙◌, length-append, arith}
+use Rattle.std.specs.Prelude.{◌↔◌, slice_get, slice_index_or}
 use Rattle.std.specs.Option.{option_map}
+use Rattle.std.proofs.lemmas.List.{get_or_append_left, get_or_push}
 use Rattle.std.proofs.lemmas.Option.{slice_get-map, slice_get_read}
 use Rattle.std.proofs.lemmas.List.Elements.{All-head, All-tail}
 use Rattle.master_state.specs.declared.events.Event.{Event}
 use Rattle.master_state.specs.declared.events.Event.TheVariants as event
 use Rattle.compact_lists.specs.declared.entries.Totals.{Totals}
 use Rattle.compact_lists.specs.declared.entries.Entry.{Entry}
-use Rattle.compact_lists.specs.declared.entries.Entry.TheVariants.{Wave, MapDone, MapFailed, Withdraw, Die, Join}
-use Rattle.compact_lists.specs.declared.entries.Entry.TheVariants.{Add, Lose, Sweep, ReduceStart, PartDone}
-use Rattle.compact_lists.specs.declared.entries.Entry.TheVariants.{PartFailed, Backup}
+use Rattle.compact_lists.specs.declared.entries.Entry.TheVariants.{Wave, MapDone, MapFailed, Withdraw, Die}
+use Rattle.compact_lists.specs.declared.entries.Entry.TheVariants.{Join, Add, Lose, Sweep, ReduceStart}
+use Rattle.compact_lists.specs.declared.entries.Entry.TheVariants.{PartDone, PartFailed, Backup}
 use Rattle.compact_lists.specs.Entries.{event_of, GoesOn, is_whole, IsWithin, no_totals, wave_of}
+
+-- a list goes on as it is, or with one element more
+pub goes_on_same : {X : Type 0} (xs : List X) → GoesOn xs xs
+goes_on_same xs = record { no_less = omega arith; one_more = omega arith; same = λ i d below. refl }
+
+pub goes_on_more : {X : Type 0} (xs ys : List X) (x : X) → ys ≡ xs ++ x ∷ [] → GoesOn xs ys
+goes_on_more xs ys x is =
+    let long = ap length is ∙ length-append xs (x ∷ []) in
+    record {
+      no_less = omega (arith, long);
+      one_more = omega (arith, long);
+      same = λ i d below. ap (λ zs. slice_index_or zs i d) is ∙ get_or_append_left xs (x ∷ []) d i below;
+    }
+
+-- the set that was added last
+pub join_read : (sets more : List (List ℕ)) (set : List ℕ) (place : ℕ) → more ≡ sets ++ set ∷ []
+    → place ≡ length sets → slice_index_or more place [] ≡ set
+join_read sets more set place is at =
+    ap (λ xs. slice_index_or xs place []) is ∙ get_or_push sets set [] place (sym at)
 
 -- an entry's event is the same where lists go on
 event_same : (e : Entry) (sets new_sets : List (List ℕ)) (totals new_totals : List Totals) →

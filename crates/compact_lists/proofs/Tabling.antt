@@ -1,5 +1,5 @@
 -- Rows that are cut from one list: their number, each of them, and one more.
-use Rattle.std.proofs.Common.{◌≡◌, ℕ, zero, suc, ◌+◌, ◌*◌, ◌<◌, ◌≤◌, ◌^◌, List, [], ◌∷◌, ◌++◌, length}
+use Rattle.std.proofs.Common.{◌≡◌, ℕ, zero, suc, ◌+◌, ◌-◌, ◌*◌, ◌<◌, ◌≤◌, ◌^◌, List, [], ◌∷◌, ◌++◌, length}
 use Rattle.std.proofs.Common.{take, drop, Some, slice_get, refl, sym, ap, ◌∙◌, arith}
 use Rattle.std.proofs.Math.Nat.{add_comm, mul-le-mul_right, suc-mul, zero-mul}
 use Rattle.std.proofs.lemmas.List.{drop-append-le, drop-drop, length-drop, take-append-le, take_all}
@@ -16,9 +16,10 @@ row_within width n i less =
     let next : suc i * width ≤ n * width = mul-le-mul_right width (omega (arith, less)) in
     omega (arith, next, suc-mul i width)
 
--- what few rows of few elements come to
-pub few_elements : (width n : ℕ) → n < 2 ^ 32 → width ≤ 256 → n * width ≤ 2 ^ 40
-few_elements width n few narrow = mul-le n width (2 ^ 32) 256 (omega (arith, few)) narrow
+-- what so few rows of so few elements come to
+pub few_elements : (width n : ℕ) → n < 2 ^ 32 → width < 2 ^ 32 → n * width < 2 ^ 64
+few_elements width n few narrow =
+    omega (arith, mul-le n width (2 ^ 32) (2 ^ 32 - 1) (omega (arith, few)) (omega (arith, narrow)))
 
 pub cut_get : {X : Type 0} (width n i : ℕ) (items : List X) → i < n →
     slice_get (cut_rows width n items) i ≡ Some (take width (drop (i * width) items))

@@ -43,6 +43,12 @@ is_whole (Wave first place) = false
 is_whole (Join w place) = false
 is_whole entry = true
 
+-- an event of a wave or a join, whose entry names its totals or its set
+abbrev pub is_named : Event → Bool
+is_named (event.Wave first count cost) = true
+is_named (event.Join w set) = true
+is_named other = false
+
 -- the second list has the elements of the first, and at most one more
 pub record GoesOn {X : Type 0} (old new : List X) : Type 0 where
   pub no_less : length old ≤ length new

@@ -1,8 +1,8 @@
-ghost use Rattle.std.specs.Prelude.{◌≡◌, ◌≤◌, ◌<◌, ◌^◌, ◌↔◌, ◌++◌, ◌∷◌, [], length, take, IfOk, IfSome, IsTrue};
-ghost use Rattle.std.specs.Prelude.{◌-◌, slice_get, slice_index_or, vec_capacity, vec_len};
-ghost use Rattle.compact_lists.specs.Counts.{counts_from, GoesOnByOne};
+ghost use Rattle.std.specs.Prelude.{◌≡◌, ◌≤◌, ◌<◌, ◌^◌, ◌↔◌, ◌++◌, ◌∷◌, ◌-◌, [], length, IfOk, IsTrue};
+ghost use Rattle.std.specs.Prelude.{slice_get, slice_index_or};
+ghost use Rattle.compact_lists.specs.Counts.{AreNear, GoesOnByOne};
 
-use crate::row_table::RowTable;
+use crate::row_table::{RowTable, push_rises};
 use std::alloc::{AllocError, Global};
 use std::marker::Model;
 
@@ -77,7 +77,7 @@ impl<'a> Counts<'a> {
 impl CountList {
     /// The empty list, with room for so many sweeps of so many workers.
     pub fn with_room(alloc: Global, room: u32, workers: usize) -> Result<CountList, AllocError>
-        requires { workers ≤ 256 }
+        requires { workers < 2 ^ 32 }
         ensures { IfOk result (λ list. list ≡ record { items = []; room = room; workers = workers }) }
     {
         let bases_of = Vec::with_capacity(alloc, room as usize)?;
@@ -101,7 +101,7 @@ impl CountList {
     /// Of how many workers each sweep has a count.
     pub fn workers(&self) -> usize
         ensures count { result ≡ self.now.workers }
-        ensures most { result ≤ 256 }
+        ensures most { result < 2 ^ 32 }
     {
         self.bases.width()
     }
@@ -127,61 +127,48 @@ impl CountList {
         ensures room { self.new.room ≡ self.old.room }
         ensures workers { self.new.workers ≡ self.old.workers }
     {
-        let rises = rises_over(&mut self.bases, counts);
-        self.rises.push(&rises[..counts.len()]);
-        self.bases_of.push_reserved(self.bases.len() as u32 - 1);
+        fit_base(&mut self.bases, counts);
+        let last = self.bases.len() - 1;
+        push_rises(&mut self.rises, self.bases.row(last), counts);
+        self.bases_of.push_reserved(last as u32);
     }
 }
 
-// By how much each count is above that of the last base. The counts are a base more where 16 bits do not tell it.
-fn rises_over(bases: &mut RowTable<u64>, counts: &[u64]) -> [u16; 256]
+// The counts are a base more, where 16 bits do not tell of each how much it is above that of the last base.
+fn fit_base(bases: &mut RowTable<u64>, counts: &[u64])
     requires room { length bases.old.rows < bases.old.room }
     requires width { length counts.now ≡ bases.old.width }
-    requires few { length counts.now ≤ 256 }
-    ensures counts { counts_from (slice_index_or bases.new.rows (length bases.new.rows - 1) [])
-        (take (length counts.now) result) ≡ counts.now }
+    ensures near { AreNear (slice_index_or bases.new.rows (length bases.new.rows - 1) []) counts.now }
     ensures some { 0 < length bases.new.rows }
     ensures bases { GoesOnByOne bases.old.rows bases.new.rows }
     ensures room { bases.new.room ≡ bases.old.room }
     ensures width { bases.new.width ≡ bases.old.width }
 {
-    if let Some(rises) = rises_above_last(bases, counts) {
-        return rises;
+    if !are_near_last(bases, counts) {
+        bases.push(counts);
     }
-    bases.push(counts);
-    [0; 256]
 }
 
-// By how much each count is above that of the last base, if there is one and 16 bits tell it of all.
-fn rises_above_last(bases: &RowTable<u64>, counts: &[u64]) -> Option<[u16; 256]>
-    requires width { length counts.now ≡ bases.now.width }
-    requires few { length counts.now ≤ 256 }
-    ensures some { IfSome result (λ rises. 0 < length bases.now.rows) }
-    ensures counts { IfSome result (λ rises.
-        counts_from (slice_index_or bases.now.rows (length bases.now.rows - 1) []) (take (length counts.now) rises)
-        ≡ counts.now) }
+// Whether there is a base, and 16 bits tell of each count how much it is above that of the last base.
+fn are_near_last(bases: &RowTable<u64>, counts: &[u64]) -> bool
+    requires { length counts.now ≡ bases.now.width }
+    ensures some { IsTrue result → 0 < length bases.now.rows }
+    ensures near { IsTrue result
+        → AreNear (slice_index_or bases.now.rows (length bases.now.rows - 1) []) counts.now }
 {
     let count = bases.len();
-    if count == 0 {
-        return None;
-    }
-    rises_above(bases.row(count - 1), counts)
+    count > 0 && are_near(bases.row(count - 1), counts)
 }
 
-// By how much each count is above that of the base, if 16 bits tell it of all.
-fn rises_above(base: &[u64], counts: &[u64]) -> Option<[u16; 256]>
-    requires same { length base.now ≡ length counts.now }
-    requires few { length counts.now ≤ 256 }
-    ensures { IfSome result (λ rises. counts_from base.now (take (length counts.now) rises) ≡ counts.now) }
+// Whether 16 bits tell of each count how much it is above the base's.
+fn are_near(base: &[u64], counts: &[u64]) -> bool
+    requires { length base.now ≡ length counts.now }
+    ensures { IsTrue result → AreNear base.now counts.now }
 {
-    let mut rises = [0; 256];
     for i in 0..counts.len() {
-        let low = base[i];
-        let count = counts[i];
-        if count < low || count - low >= 65_536 {
-            return None;
+        if counts[i] < base[i] || counts[i] - base[i] >= 65_536 {
+            return false;
         }
-        rises[i] = (count - low) as u16;
     }
-    Some(rises)
+    true
 }

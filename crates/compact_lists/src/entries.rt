@@ -1,8 +1,10 @@
-ghost use Rattle.std.specs.Prelude.{◌≡◌, ◌↔◌, IsTrue, ◌<◌, ◌^◌, ◌++◌, ◌∷◌, [], length, vec_capacity, vec_len};
-ghost use Rattle.compact_lists.specs.Entries.{event_of, GoesOn, is_whole, IsWithin};
+ghost use Rattle.std.specs.Prelude.{◌≡◌, ◌↔◌, IsTrue, ◌<◌, ◌^◌, ◌++◌, ◌∷◌, [], ℕ, List, true, false, length};
+ghost use Rattle.std.specs.Prelude.{vec_capacity, vec_len};
+ghost use Rattle.compact_lists.specs.Entries.{event_of, GoesOn, is_named, is_whole, IsWithin};
+ghost use Rattle.compact_lists.specs.Lists.{is_join};
 
 use master_state::Event;
-use node_ids::{AttemptNo, PartNo, SplitNo, SplitSet, WorkerNo};
+use node_ids::{AttemptNo, PartNo, SplitNo, SplitRow, SplitSet, WorkerNo};
 
 // An event in few bytes: a join names the place of its set, and a wave that of its totals, from 0.
 #[derive(Clone, Copy, Debug, PartialEq, Eq)]
@@ -32,40 +34,38 @@ pub(crate) struct Totals {
     pub(crate) cost: u64,
 }
 
-// The entry of an event, whose set or totals are added to the lists.
-pub(crate) fn entry_of(sets: &mut Vec<SplitSet>, totals: &mut Vec<Totals>, event: &Event) -> Entry
-    requires sets { vec_len sets.old < vec_capacity sets.old }
+// The entry of an event other than a join, whose totals are added to the list.
+pub(crate) fn entry_of(totals: &mut Vec<Totals>, event: &Event<'_>) -> Entry
+    requires no_join { is_join event.now ≡ false }
     requires totals { vec_len totals.old < vec_capacity totals.old }
-    requires few_sets { vec_len sets.old < 2 ^ 32 }
     requires few_totals { vec_len totals.old < 2 ^ 32 }
-    ensures event { event_of sets.new.items totals.new.items result ≡ event.now }
-    ensures within { IsWithin (length sets.new.items) (length totals.new.items) result }
-    ensures sets { GoesOn sets.old.items sets.new.items }
+    ensures event { (sets : List (List ℕ)) → event_of sets totals.new.items result ≡ event.now }
+    ensures within { (sets : ℕ) → IsWithin sets (length totals.new.items) result }
     ensures totals { GoesOn totals.old.items totals.new.items }
-    ensures set_room { vec_capacity sets.new ≡ vec_capacity sets.old }
     ensures total_room { vec_capacity totals.new ≡ vec_capacity totals.old }
 {
-    match *event {
+    match event {
         Event::Wave { first, count, cost } => {
-            Entry::Wave(first, add(totals, Totals { count, cost }))
+            let (count, cost) = (*count, *cost);
+            Entry::Wave(*first, add(totals, Totals { count, cost }))
         }
-        Event::MapDone(attempt) => Entry::MapDone(attempt),
-        Event::MapFailed(attempt) => Entry::MapFailed(attempt),
-        Event::Withdraw(attempt) => Entry::Withdraw(attempt),
-        Event::Die(worker) => Entry::Die(worker),
-        Event::Join(worker, set) => Entry::Join(worker, add(sets, set)),
-        Event::Add(split, worker) => Entry::Add(split, worker),
-        Event::Lose(split, worker) => Entry::Lose(split, worker),
-        Event::Sweep(place) => Entry::Sweep(place),
-        Event::ReduceStart(attempt, part, worker) => Entry::ReduceStart(attempt, part, worker),
-        Event::PartDone(attempt) => Entry::PartDone(attempt),
-        Event::PartFailed(attempt) => Entry::PartFailed(attempt),
-        Event::Backup(attempt, split, worker) => Entry::Backup(worker, attempt, split),
+        Event::MapDone(attempt) => Entry::MapDone(*attempt),
+        Event::MapFailed(attempt) => Entry::MapFailed(*attempt),
+        Event::Withdraw(attempt) => Entry::Withdraw(*attempt),
+        Event::Die(worker) => Entry::Die(*worker),
+        Event::Join(..) => unreachable!(),
+        Event::Add(split, worker) => Entry::Add(*split, *worker),
+        Event::Lose(split, worker) => Entry::Lose(*split, *worker),
+        Event::Sweep(place) => Entry::Sweep(*place),
+        Event::ReduceStart(attempt, part, worker) => Entry::ReduceStart(*attempt, *part, *worker),
+        Event::PartDone(attempt) => Entry::PartDone(*attempt),
+        Event::PartFailed(attempt) => Entry::PartFailed(*attempt),
+        Event::Backup(attempt, split, worker) => Entry::Backup(*worker, *attempt, *split),
     }
 }
 
 // Adds a value to a list with room for it, and gives its place.
-pub(crate) fn add<T: Copy>(list: &mut Vec<T>, value: T) -> u32
+pub(crate) fn add<T>(list: &mut Vec<T>, value: T) -> u32
     requires room { vec_len list.old < vec_capacity list.old }
     requires few { vec_len list.old < 2 ^ 32 }
     ensures items { list.new.items ≡ list.old.items ++ value ∷ [] }
@@ -78,7 +78,7 @@ pub(crate) fn add<T: Copy>(list: &mut Vec<T>, value: T) -> u32
 }
 
 // The event of an entry.
-pub(crate) fn event_of(sets: &[SplitSet], totals: &[Totals], entry: Entry) -> Event
+pub(crate) fn event_of<'a>(sets: &'a [SplitSet], totals: &[Totals], entry: Entry) -> Event<'a>
     requires { IsWithin (length sets.now) (length totals.now) entry }
     ensures { result ≡ event_of sets.now totals.now entry }
 {
@@ -91,7 +91,7 @@ pub(crate) fn event_of(sets: &[SplitSet], totals: &[Totals], entry: Entry) -> Ev
         Entry::MapFailed(attempt) => Event::MapFailed(attempt),
         Entry::Withdraw(attempt) => Event::Withdraw(attempt),
         Entry::Die(worker) => Event::Die(worker),
-        Entry::Join(worker, place) => Event::Join(worker, sets[place as usize]),
+        Entry::Join(worker, place) => Event::Join(worker, SplitRow::of(&sets[place as usize])),
         Entry::Add(split, worker) => Event::Add(split, worker),
         Entry::Lose(split, worker) => Event::Lose(split, worker),
         Entry::Sweep(place) => Event::Sweep(place),
@@ -116,9 +116,23 @@ pub(crate) fn is_entry(entry: &Entry, other: &Entry) -> bool
     *entry == *other
 }
 
-// Whether two events are.
-pub(crate) fn is_event(event: &Event, other: &Event) -> bool
+// Whether an event is that of a wave or a join, and the same as another.
+pub(crate) fn is_event(event: &Event<'_>, other: &Event<'_>) -> bool
+    requires { is_named event.now ≡ true }
     ensures { IsTrue result ↔ (event.now ≡ other.now) }
 {
-    *event == *other
+    match (event, other) {
+        (
+            Event::Wave { first, count, cost },
+            Event::Wave {
+                first: begin,
+                count: size,
+                cost: sum,
+            },
+        ) => { first == begin && count == size && cost == sum }
+        (Event::Join(worker, set), Event::Join(there, splits)) => {
+            worker == there && set.is_same(splits)
+        }
+        _ => false,
+    }
 }

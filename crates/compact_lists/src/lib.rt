@@ -1,4 +1,4 @@
-//! Lists of what a master accepts, in few bytes and in room that is reserved once.
+//! Lists of what a master accepts, in few bytes and in room that is reserved before.
 //!
 //! An `EventList` keeps an event in 12 bytes. The set of a join and the totals of a wave stand in lists of
 //! their own, and the event names their place there. A `CountList` keeps some sweeps' counts whole, as bases.
@@ -13,5 +13,5 @@ pub mod events;
 pub mod row_table;
 
 pub use counts::{CountList, Counts};
-pub use events::EventList;
+pub use events::{EventList, hold};
 pub use row_table::add_all;

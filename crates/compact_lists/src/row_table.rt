@@ -1,5 +1,6 @@
 ghost use Rattle.std.specs.Prelude.{◌≡◌, ◌<◌, ◌≤◌, ◌+◌, ◌^◌, ◌++◌, ◌∷◌, [], length, IfOk, Some, slice_get};
 ghost use Rattle.std.specs.Prelude.{vec_capacity, vec_len};
+ghost use Rattle.compact_lists.specs.Counts.{AreNear, rises_over};
 
 use std::alloc::{AllocError, Global};
 use std::marker::Model;
@@ -19,10 +20,14 @@ impl<T: Copy> Model for RowTable<T> {
 
     ghost Value = { RowsValue T };
 
-    ghost view = { λ t. record { rows = cut_rows t.width t.rows t.items.items; room = t.room; width = t.width } };
+    ghost view = { λ t. record {
+      rows = cut_rows t.width t.rows t.items.items;
+      room = t.room;
+      width = t.width;
+    } };
 
     ghost invariant = { λ t. (length t.items.items ≡ t.rows * t.width) × (t.rows ≤ t.room) × (t.rows < 2 ^ 32)
-        × (t.room * t.width ≤ vec_capacity t.items) × (t.width ≤ 256) };
+        × (t.room * t.width ≤ vec_capacity t.items) × (t.width < 2 ^ 32) };
 }
 
 impl<T: Copy> RowTable<T> {
@@ -32,7 +37,7 @@ impl<T: Copy> RowTable<T> {
         room: u32,
         width: usize,
     ) -> Result<RowTable<T>, AllocError>
-        requires { width ≤ 256 }
+        requires { width < 2 ^ 32 }
         ensures { IfOk result (λ t. t ≡ record { rows = []; room = room; width = width }) }
     {
         let items = Vec::with_capacity(alloc, room as usize * width)?;
@@ -76,6 +81,33 @@ impl<T: Copy> RowTable<T> {
     {
         add_all(&mut self.items, row);
         self.rows += 1;
+    }
+}
+
+// Adds the row of how much each count is above the base's.
+pub(crate) fn push_rises(table: &mut RowTable<u16>, base: &[u64], counts: &[u64])
+    requires room { length table.old.rows < table.old.room }
+    requires width { length counts.now ≡ table.old.width }
+    requires same { length base.now ≡ length counts.now }
+    requires near { AreNear base.now counts.now }
+    ensures rows { table.new.rows ≡ table.old.rows ++ rises_over base.now counts.now ∷ [] }
+    ensures room { table.new.room ≡ table.old.room }
+    ensures width { table.new.width ≡ table.old.width }
+{
+    add_rises(&mut table.items, base, counts);
+    table.rows += 1;
+}
+
+// Appends how much each count is above the base's to a list that has room for it.
+fn add_rises(list: &mut Vec<u16>, base: &[u64], counts: &[u64])
+    requires room { vec_len list.old + length counts.now ≤ vec_capacity list.old }
+    requires same { length base.now ≡ length counts.now }
+    requires near { AreNear base.now counts.now }
+    ensures items { list.new.items ≡ list.old.items ++ rises_over base.now counts.now }
+    ensures capacity { vec_capacity list.new ≡ vec_capacity list.old }
+{
+    for i in 0..counts.len() {
+        list.push_reserved((counts[i] - base[i]) as u16);
     }
 }
 

@@ -70,7 +70,7 @@ const ENTRIES: [Entry; 44] = [
     Entry {
         kind: "fault",
         name: "11",
-        sentence: "the text has more than 16,777,216 bytes, or 268,435,456 after the line `problem 3`",
+        sentence: "the text has more than 16,777,216 bytes, or 268,435,456 in version 3",
     },
     Entry {
         kind: "fault",
@@ -155,7 +155,7 @@ const ENTRIES: [Entry; 44] = [
     Entry {
         kind: "ignored",
         name: "6",
-        sentence: "a split has eight holders",
+        sentence: "a split has eight holders, or sixteen in version 3",
     },
     Entry {
         kind: "ignored",

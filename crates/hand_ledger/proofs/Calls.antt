@@ -2,10 +2,10 @@
 use Rattle.std.proofs.Common.{◌≡◌, ℕ, zero, suc, ◌+◌, ◌-◌, ◌≤◌, List, [], ◌∷◌, ◌++◌, length, take, drop}
 use Rattle.std.proofs.Common.{get_or, ◌<◌, ◌&&◌, nat_lt, nat_le, Bool, true, false, None, Option, Some}
 use Rattle.std.proofs.Common.{refl, sym, ap, subst, ◌∙◌, arith, sum_by}
-use Rattle.std.specs.Prelude.{slice_get}
-use Rattle.std.specs.Option.{option_to_list}
+use Rattle.std.specs.Prelude.{◌↔◌, slice_get}
+use Rattle.std.specs.Option.{option_map_or, option_to_list}
 use Rattle.std.proofs.lemmas.List.{drop-drop, take-append-le, drop-append-le, take_all, drop_at, length-drop}
-use Rattle.std.proofs.lemmas.List.{length-take-le, length-append, append_assoc, take_more}
+use Rattle.std.proofs.lemmas.List.{length-take-le, length-append, append-nil, append_assoc, take_more}
 use Rattle.std.proofs.lemmas.List.Elements.{All-push}
 use Rattle.std.proofs.lemmas.Option.{slice_get-get_or}
 use Rattle.std.proofs.lemmas.Bool.Decides.{nat_tests}
@@ -16,7 +16,7 @@ use Rattle.master_state.specs.declared.states.Limits.{Limits}
 use Rattle.master_state.specs.declared.states.Start.{Start}
 use Rattle.hand_ledger.specs.declared.entries.Entry.{Entry}
 use Rattle.hand_ledger.specs.Hands.{Kept, kept, HandValue, counts_in, starts_in, all_counts, all_starts}
-use Rattle.hand_ledger.specs.Hands.{has_room}
+use Rattle.hand_ledger.specs.Hands.{grown, has_room, with_place}
 use Rattle.hand_ledger.specs.Inside.{calls_of, counts_taken, starts_taken, AreKept, IsPlace}
 use Rattle.hand_ledger.specs.Settling.{LogValue, all_calls, event_at, call_at, counts_at, starts_at}
 
@@ -86,6 +86,15 @@ pub calls_kept : (es : List Entry) (e : Entry) (cs more : List (List ℕ)) (ss o
     calls_of (es ++ e ∷ []) (cs ++ more) (ss ++ others)
     ≡ calls_of es cs ss ++ kept e.place e.event more others ∷ []
 calls_kept es e cs more ss others c s m o = grind (arith, calls_more, calls_same, taken_back)
+
+-- and one that has neither counts nor starts
+pub calls_joined : (es : List Entry) (e : Entry) (cs : List (List ℕ)) (ss : List Start) →
+    counts_taken es ≡ length cs → starts_taken es ≡ length ss → 0 ≡ counts_in e.event →
+    0 ≡ starts_in e.event →
+    calls_of (es ++ e ∷ []) cs ss ≡ calls_of es cs ss ++ kept e.place e.event [] [] ∷ []
+calls_joined es e cs ss c s m o =
+    (λ k. calls_of (es ++ e ∷ []) (sym (append-nil cs) k) (sym (append-nil ss) k))
+    ∙ calls_kept es e cs [] ss [] c s m o
 
 pub length-calls : (es : List Entry) (cs : List (List ℕ)) (ss : List Start) →
     length (calls_of es cs ss) ≡ length es
@@ -246,15 +255,51 @@ pub kept_more : {es : List Entry} {cs : List (List ℕ)} {ss : List Start} {room
 kept_more {es = es} {cs = cs} {ss = ss} e more others m o place fits old =
     grind (arith, common_steps, All-push, taken_more, length-append)
 
+pub kept_joined : {es : List Entry} {cs : List (List ℕ)} {ss : List Start} {room : Limits} (e : Entry) →
+    0 ≡ counts_in e.event → 0 ≡ starts_in e.event → IsPlace e.place →
+    (length es < room.events) × (length cs + counts_in e.event ≤ room.sweeps)
+    × (length ss + starts_in e.event ≤ room.attempts) →
+    AreKept es cs ss room → AreKept (es ++ e ∷ []) cs ss room
+kept_joined {es = es} {cs = cs} {ss = ss} {room = room} e m o place fits old =
+    subst (λ (l : List (List ℕ)). AreKept (es ++ e ∷ []) l ss room) (append-nil cs)
+    (subst (λ (l : List Start). AreKept (es ++ e ∷ []) (cs ++ []) l room) (append-nil ss)
+    (kept_more e [] [] m o place fits old))
+
 -- the call at the place of an event
-pub call_there : (log : LogValue) (place : ℕ) (event : Event) → event_at log.history place ≡ Some event →
+call_there : (log : LogValue) (place : ℕ) (event : Event) → event_at log.history place ≡ Some event →
     call_at log place ≡ kept place event (counts_at log event) (starts_at log event) ∷ []
 call_there log place event at = grind arith
 
--- the starts of the first call
-abbrev pub first_starts : List Kept → List Start
+-- only with this event
+event_in : (log : LogValue) (place : ℕ) (event : Event) (cs : List (List ℕ)) (ss : List Start)
+    (found : Option Event) →
+    option_map_or (λ event. kept place event (counts_at log event) (starts_at log event) ∷ []) found []
+    ≡ kept place event cs ss ∷ [] → found ≡ Some event
+event_in log place event cs ss None is = absurd cc
+event_in log place event cs ss (Some e) is = ap (λ (call : Kept). Some call.event) (same_first _ _ is)
+
+-- the counts, and the starts, of the first call
+abbrev first_counts : List Kept → List (List ℕ)
+first_counts [] = []
+first_counts (call ∷ calls) = call.counts
+
+abbrev first_starts : List Kept → List Start
 first_starts [] = []
 first_starts (call ∷ calls) = call.starts
+
+-- A log has just a call at the place of an entry exactly if the entry's event stands there, with these counts
+-- and starts.
+pub has_call : (log : LogValue) (e : Entry) (cs : List (List ℕ)) (ss : List Start) →
+    (call_at log e.place ≡ kept e.place e.event cs ss ∷ [])
+    ↔ ((event_at log.history e.place ≡ Some e.event) × (counts_at log e.event ≡ cs)
+    × (starts_at log e.event ≡ ss))
+has_call log e cs ss = (
+  λ is.
+      (let at = event_in log e.place e.event cs ss (event_at log.history e.place) is in
+      let same = sym (call_there log e.place e.event at) ∙ is in
+      (at, ap first_counts same, ap first_starts same)),
+  λ all. call_there log e.place e.event all.0 ∙ (λ k. kept e.place e.event (all.1 k) (all.2 k) ∷ []),
+)
 
 -- the calls of a hand, by its entries, and of others
 pub length-all_calls : {hands others : List HandValue} {hand : HandValue} (es : List Entry)
@@ -262,3 +307,38 @@ pub length-all_calls : {hands others : List HandValue} {hand : HandValue} (es : 
     hands ≡ hand ∷ others → calls_of es cs ss ≡ hand.calls →
     length (all_calls hands) ≡ length es + length (all_calls others)
 length-all_calls {others = others} {hand = hand} es cs ss is its = grind (arith, length-append, length-calls)
+
+-- A hand with room for an event more stays as it is, and one without grows.
+module _ (es : List Entry) (cs : List (List ℕ)) (ss : List Start) {room : Limits} {hand : HandValue}
+    {workers : ℕ} {strange full : Bool}
+    (view : hand_from (calls_of es cs ss) workers room strange full ≡ hand) where
+  pub calls_long : length hand.calls ≡ length es
+  calls_long = sym (ap (λ (h : HandValue). length h.calls) view) ∙ length-calls es cs ss
+
+  pub placed_in : length es < room.events → hand ≡ with_place hand
+  placed_in lt = grind (arith, nat_tests, length-calls)
+
+  pub placed_anew : room.events ≤ length es →
+      hand_from (calls_of es cs ss) workers (record room { events = grown room.events }) strange full
+      ≡ with_place hand
+  placed_anew le = grind (arith, nat_tests, length-calls)
+
+  -- and then it has room
+  pub place_left : AreKept es cs ss room → length es < room.events → has_room hand 0 0 ≡ true
+  place_left lists lt =
+      grind (arith, nat_tests, room_is 0 0 view lists, lists.few_counts, lists.few_starts)
+
+pub grown_more : (events n : ℕ) → n ≤ events → n < 1048576 → n < grown events
+grown_more events n le few = grind (arith, nat_tests)
+
+-- more room for events keeps the lists within it
+pub kept_within : {es : List Entry} {cs : List (List ℕ)} {ss : List Start} {room : Limits} (events : ℕ) →
+    room.events ≤ events → AreKept es cs ss room → AreKept es cs ss (record room { events = events })
+kept_within events le old = record {
+  places = old.places;
+  counts_are = old.counts_are;
+  starts_are = old.starts_are;
+  few_events = omega (arith, le, old.few_events);
+  few_counts = old.few_counts;
+  few_starts = old.few_starts;
+}

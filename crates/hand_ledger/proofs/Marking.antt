@@ -1,6 +1,7 @@
 -- What a table of places says of calls.
-use Rattle.std.proofs.Common.{◌≡◌, ℕ, zero, suc, ◌+◌, ◌<◌, ◌≤◌, Bool, List, [], ◌∷◌, length, get_or, All}
-use Rattle.std.proofs.Common.{IsTrue, Option, Some, None, refl, sym, ap, ◌∙◌, arith, ◌↔◌}
+use Rattle.std.proofs.Common.{◌≡◌, ℕ, zero, suc, ◌+◌, ◌-◌, ◌<◌, ◌≤◌, Bool, List, [], ◌∷◌, length, get_or}
+use Rattle.std.proofs.Common.{drop, All}
+use Rattle.std.proofs.Common.{IsTrue, subst, Option, Some, None, refl, sym, ap, ◌∙◌, arith, ◌↔◌}
 use Rattle.std.specs.Option.{option_map_or}
 use Rattle.std.specs.Prelude.{slice_get}
 use Rattle.std.proofs.lemmas.List.{get_or_default}
@@ -8,13 +9,30 @@ use Rattle.std.proofs.lemmas.Option.{slice_get_past}
 use Rattle.std.proofs.lemmas.Bool.Decides.{nat_tests}
 use Rattle.std.proofs.Math.Decide.{dec_le}
 use Rattle.master_state.specs.declared.events.Event.{Event}
+use Rattle.master_state.specs.declared.states.Start.{Start}
 use Rattle.hand_ledger.specs.declared.marks.Found.{Found}
 use Rattle.hand_ledger.specs.declared.marks.Found.TheVariants.{Nowhere, Once, Wrong}
 use Rattle.hand_ledger.specs.declared.marks.TheConstants.{PLACES}
-use Rattle.hand_ledger.specs.Hands.{Kept, HandValue}
+use Rattle.hand_ledger.specs.declared.entries.Entry.{Entry}
+use Rattle.hand_ledger.specs.Hands.{Kept, HandValue, counts_in, starts_in}
+use Rattle.hand_ledger.specs.Inside.{calls_of}
 use Rattle.hand_ledger.specs.Marks.{Describes, Marks, wanted, IsRight, IsAsWanted, IsFirstWrong}
+use Rattle.hand_ledger.specs.Marks.{AreNonePast, IsLowestFrom}
 use Rattle.hand_ledger.specs.Settling.{LogValue, at_place, call_at, all_calls}
-use Rattle.hand_ledger.specs.Settling.{AreTrue, AgreesAt, IsLowestTorn}
+use Rattle.hand_ledger.specs.Settling.{AreTrue, AgreesAt}
+
+-- no call stands past the greatest place of the entries
+pub none_past : (es : List Entry) (cs : List (List ℕ)) (ss : List Start) {last : ℕ} →
+    All (λ entry. entry.place ≤ last) es → AreNonePast last (calls_of es cs ss)
+none_past [] cs ss low place past = refl
+none_past (e ∷ es) cs ss low place past =
+    grind (
+      arith,
+      nat_tests,
+      low 0 e,
+      none_past es (drop (counts_in e.event) cs) (drop (starts_in e.event) ss)
+          (λ k d lt. low (suc k) d (omega arith)) place past,
+    )
 
 -- one at each place of the history, and none elsewhere
 just_one : (f : Event → Kept) (history : List Event) (k : ℕ) → k < length history →
@@ -58,15 +76,15 @@ told_at log calls f (suc k) says = elim (dec_le (suc k) (length log.history)) [
 ]
 
 module _ (log : LogValue) (short notes : Bool) (hands : List HandValue) (found : List Found)
-    (few : length log.history ≤ 65536) (marks : Marks log (all_calls hands) found)
+    (first : ℕ) (marks : Marks log first (all_calls hands) found)
     (true_notes : IsTrue notes ↔ All (AreTrue short) hands) where
   -- so it holds exactly where it is right
-  right_is : (place : ℕ) → place < PLACES →
-      IsRight (length log.history) notes found place ↔ AgreesAt log short hands place
-  right_is place lt =
-      let told : (d : Found) → (get_or found place d ≡ wanted (length log.history) place)
-      ↔ (at_place place (all_calls hands) ≡ call_at log place) =
-      λ d. told_at log (all_calls hands) (get_or found place d) place (marks.each place d lt) in (
+  right_is : (n : ℕ) → n < PLACES →
+      IsRight (length log.history) notes first found n ↔ AgreesAt log short hands (first + n)
+  right_is n lt =
+      let told : (d : Found) → (get_or found n d ≡ wanted (length log.history) (first + n))
+      ↔ (at_place (first + n) (all_calls hands) ≡ call_at log (first + n)) =
+      λ d. told_at log (all_calls hands) (get_or found n d) (first + n) (marks n d lt) in (
         λ right. record {
           told = (told Nowhere).0 (right Nowhere).seen;
           notes = λ last. true_notes.0 ((right Nowhere).noted last);
@@ -74,32 +92,46 @@ module _ (log : LogValue) (short notes : Bool) (hands : List HandValue) (found :
         λ holds d. record { seen = (told d).1 holds.told; noted = λ last. true_notes.1 (holds.notes last) },
       )
 
-  -- past all places nothing is told, and nothing is asked for
-  all_hold : ((p : ℕ) → p < PLACES → IsRight (length log.history) notes found p) → (place : ℕ) →
+  pub lowest_from : (torn : Option ℕ) → IsFirstWrong (length log.history) notes first found torn →
+      IsLowestFrom log short hands first torn
+  lowest_from None all = λ n lt. (right_is n lt).0 (all n lt)
+  lowest_from (Some t) is = (
+    is.0,
+    λ holds. is.1 ((right_is t is.0).1 holds),
+    λ m lt. (right_is m (omega (arith, is.0))).0 (is.2 m lt),
+  )
+
+-- Where all places agree up to the last one, past which there is neither an event nor a call, all do.
+module _ (log : LogValue) (short : Bool) (hands : List HandValue) (last : ℕ)
+    (events : length log.history + 1 ≤ last) (none : AreNonePast last (all_calls hands)) where
+  pub all_agree : ((place : ℕ) → place ≤ last → AgreesAt log short hands place) → (place : ℕ) →
       AgreesAt log short hands place
-  all_hold all place = elim (dec_le PLACES place) [
-    | yes past ↦ record {
-      told = marks.past place past ∙ sym (no_call log place (omega arith));
-      notes = λ last. absurd (omega arith);
+  all_agree all place = elim (dec_le place last) [
+    | yes within ↦ all place within
+    | no past ↦ record {
+      told = none place (omega arith) ∙ sym (no_call log place (omega arith));
+      notes = λ is_last. absurd (omega arith);
     }
-    | no within ↦ let lt : place < PLACES = omega arith in (right_is place lt).0 (all place lt)
   ]
 
-  pub lowest_torn : (torn : Option ℕ) → IsFirstWrong (length log.history) notes found torn →
-      IsLowestTorn log short hands torn
-  lowest_torn None all = all_hold all
-  lowest_torn (Some t) is = (
-    λ holds. is.1 ((right_is t is.0).1 holds),
-    λ place lt. (right_is place (omega (arith, is.0))).0 (is.2 place lt),
-  )
+-- what holds below a place and at so many from it on holds below the place after them
+pub up_to : (P : ℕ → Type 0) (first size : ℕ) → ((place : ℕ) → place < first → P place) →
+    ((n : ℕ) → n < size → P (first + n)) → (place : ℕ) → place < first + size → P place
+up_to P first size low more place lt = elim (dec_le first place) [
+  | yes from ↦
+      let is : first + (place - first) ≡ place = omega arith in
+      subst P is (more (place - first) (omega arith))
+  | no before ↦ low place (omega arith)
+]
 
 -- a table in which nothing was found
 pub marks_none : (log : LogValue) (found : List Found) →
-    ((place : ℕ) (d : Found) → place < PLACES → get_or found place d ≡ Nowhere) → Marks log [] found
-marks_none log found none = grind arith
+    ((n : ℕ) (d : Found) → n < PLACES → get_or found n d ≡ Nowhere) → (first : ℕ) → Marks log first [] found
+marks_none log found none first = grind arith
 
 -- one place on
-pub right_more : (events : ℕ) (notes : Bool) (found : List Found) (n : ℕ) → n < length found →
-    IsAsWanted events notes (get_or found n Nowhere) n → ((p : ℕ) → p < n → IsRight events notes found p) →
-    (p : ℕ) → p < n + 1 → IsRight events notes found p
-right_more events notes found n within here before p lt d = grind (arith, get_or_default)
+pub right_more : (events : ℕ) (notes : Bool) (first : ℕ) (found : List Found) (n : ℕ) → n < length found →
+    IsAsWanted events notes (get_or found n Nowhere) (first + n) →
+    ((p : ℕ) → p < n → IsRight events notes first found p) →
+    (p : ℕ) → p < n + 1 → IsRight events notes first found p
+right_more events notes first found n within here before p lt d = grind (arith, get_or_default)

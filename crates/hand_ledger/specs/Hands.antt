@@ -1,6 +1,6 @@
 -- What a hand keeps of the calls of its thread, and what is kept of all hands.
-use Rattle.std.specs.Prelude.{ℕ, ◌+◌, ◌&&◌, ◌||◌, nat_le, nat_lt, Bool, true, false, List, [], ◌∷◌, ◌++◌}
-use Rattle.std.specs.Prelude.{length, map, take, Option, Some, None}
+use Rattle.std.specs.Prelude.{ℕ, ◌+◌, ◌*◌, ◌&&◌, ◌||◌, nat_le, nat_lt, max, min, Bool, true, false, List, [], ◌∷◌}
+use Rattle.std.specs.Prelude.{◌++◌, if◌then◌else◌, length, Option, Some, None}
 use Rattle.std.specs.List.{sum_by}
 use Rattle.master_state.specs.declared.answers.Why.{Why}
 use Rattle.master_state.specs.declared.answers.Why.TheVariants.{HistoryFull, StrangeHand}
@@ -38,10 +38,6 @@ new_hand workers room = record {
   full = false;
 }
 
--- of the counts that are handed in, a hand keeps the counts of its workers
-abbrev pub own_counts : HandValue → List (List ℕ) → List (List ℕ)
-own_counts hand counts = map (take hand.workers) counts
-
 -- all hands of a ledger: how many calls they keep together, and how many hands were made
 pub record HandsValue : Type 0 where
   pub total : ℕ
@@ -69,6 +65,16 @@ has_room hand counts starts =
     nat_lt (length hand.calls) hand.room.events
     && nat_le (all_counts hand.calls + counts) hand.room.sweeps
     && nat_le (all_starts hand.calls + starts) hand.room.attempts
+
+-- room for twice as many events, for 64 at least, and for no more than the longest history has
+abbrev pub grown : ℕ → ℕ
+grown events = if nat_le 1048576 events then events else min 1048576 (max 64 (2 * events))
+
+-- the hand with so much more room, where it had none for another event
+abbrev pub with_place : HandValue → HandValue
+with_place hand =
+    if nat_lt (length hand.calls) hand.room.events then hand
+    else record hand { room = record hand.room { events = grown hand.room.events } }
 
 -- the hand with a call more
 abbrev pub with_call : HandValue → Kept → HandValue

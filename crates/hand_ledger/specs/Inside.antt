@@ -23,7 +23,7 @@ starts_taken entries = sum_by (λ entry. starts_in entry.event) entries
 
 -- a place that a history may have
 abbrev pub IsPlace : ℕ → Type 0
-IsPlace place = place ≤ 65536
+IsPlace place = place ≤ 1048576
 
 -- the lists take one another's elements, no more and no less, and are within the room
 pub record AreKept (entries : List Entry) (counts : List (List ℕ)) (starts : List Start) (room : Limits)

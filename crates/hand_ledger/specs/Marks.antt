@@ -4,8 +4,8 @@ use Rattle.std.specs.Prelude.{None, if◌then◌else◌, slice_index_or}
 use Rattle.hand_ledger.specs.declared.marks.Found.{Found}
 use Rattle.hand_ledger.specs.declared.marks.Found.TheVariants.{Nowhere, Once, Wrong}
 use Rattle.hand_ledger.specs.declared.marks.TheConstants.{PLACES}
-use Rattle.hand_ledger.specs.Hands.{Kept}
-use Rattle.hand_ledger.specs.Settling.{LogValue, at_place, call_at}
+use Rattle.hand_ledger.specs.Hands.{Kept, HandValue}
+use Rattle.hand_ledger.specs.Settling.{LogValue, at_place, call_at, AgreesAt}
 
 -- what was found says how the calls at a place are, where these are wanted there
 abbrev pub Describes : Found → List Kept → List Kept → Type 0
@@ -13,11 +13,10 @@ Describes Nowhere calls wanted = calls ≡ []
 Describes Once calls wanted = (calls ≡ wanted) × (length wanted ≡ 1)
 Describes Wrong calls wanted = (calls ≡ [] → ⊥) × (calls ≡ wanted → ⊥)
 
--- it does so at each place, and no call has a place past them
-pub record Marks (log : LogValue) (calls : List Kept) (found : List Found) : Type 0 where
-  pub each : (place : ℕ) (d : Found) → place < PLACES →
-      Describes (slice_index_or found place d) (at_place place calls) (call_at log place)
-  pub past : (place : ℕ) → PLACES ≤ place → at_place place calls ≡ []
+-- it does so at each place from the first on
+abbrev pub Marks : LogValue → ℕ → List Kept → List Found → Type 0
+Marks log first calls found = (n : ℕ) (d : Found) → n < PLACES →
+    Describes (slice_index_or found n d) (at_place (first + n) calls) (call_at log (first + n))
 
 -- one call more at a place, and whether it is the one that stands there
 abbrev pub found_more : Found → Bool → Found
@@ -33,12 +32,24 @@ pub record IsAsWanted (events : ℕ) (notes : Bool) (found : Found) (place : ℕ
   pub seen : found ≡ wanted events place
   pub noted : place ≡ events + 1 → notes ≡ true
 
-abbrev pub IsRight : ℕ → Bool → List Found → ℕ → Type 0
-IsRight events notes found place = (d : Found) → IsAsWanted events notes (slice_index_or found place d) place
+-- what was found at the n-th place after the first is right
+abbrev pub IsRight : ℕ → Bool → ℕ → List Found → ℕ → Type 0
+IsRight events notes first found n = (d : Found) → IsAsWanted events notes (slice_index_or found n d) (first + n)
 
--- the first place at which it is not right, if there is one
-abbrev pub IsFirstWrong : ℕ → Bool → List Found → Option ℕ → Type 0
-IsFirstWrong events notes found None = (place : ℕ) → place < PLACES → IsRight events notes found place
-IsFirstWrong events notes found (Some torn) =
-    (torn < PLACES) × (IsRight events notes found torn → ⊥)
-    × ((place : ℕ) → place < torn → IsRight events notes found place)
+-- the first such place at which it is not right, if there is one
+abbrev pub IsFirstWrong : ℕ → Bool → ℕ → List Found → Option ℕ → Type 0
+IsFirstWrong events notes first found None = (n : ℕ) → n < PLACES → IsRight events notes first found n
+IsFirstWrong events notes first found (Some n) =
+    (n < PLACES) × (IsRight events notes first found n → ⊥)
+    × ((m : ℕ) → m < n → IsRight events notes first found m)
+
+-- no call has a place past the last
+abbrev pub AreNonePast : ℕ → List Kept → Type 0
+AreNonePast last calls = (place : ℕ) → last < place → at_place place calls ≡ []
+
+-- the lowest of these places that does not hold, counted from the first, if there is one
+abbrev pub IsLowestFrom : LogValue → Bool → List HandValue → ℕ → Option ℕ → Type 0
+IsLowestFrom log is_short hands first None = (n : ℕ) → n < PLACES → AgreesAt log is_short hands (first + n)
+IsLowestFrom log is_short hands first (Some n) =
+    (n < PLACES) × (AgreesAt log is_short hands (first + n) → ⊥)
+    × ((m : ℕ) → m < n → AgreesAt log is_short hands (first + m))

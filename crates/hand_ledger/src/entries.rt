@@ -1,21 +1,26 @@
-ghost use Rattle.std.specs.Prelude.{◌≡◌, ◌<◌, ◌≤◌, ◌-◌, ◌↔◌, IsTrue, ◌++◌, ◌∷◌, [], length, vec_capacity, IfOk, Some, None};
-ghost use Rattle.std.specs.Prelude.{slice_get};
+ghost use Rattle.std.specs.Prelude.{◌≡◌, ◌<◌, ◌≤◌, ◌-◌, ◌↔◌, IsTrue, ◌++◌, ◌∷◌, [], length, vec_capacity};
+ghost use Rattle.std.specs.Prelude.{IfOk, OnErr, OnOk, Some, None, false};
+ghost use Rattle.std.specs.Prelude.{slice_get, All};
+ghost use Rattle.compact_lists.specs.Lists.{is_join};
 ghost use Rattle.hand_ledger.specs.Entries.{EntriesValue, entries_from};
+ghost use Rattle.hand_ledger.specs.Inside.{IsPlace};
 ghost use Rattle.hand_ledger.specs.Settling.{event_at};
+ghost use Rattle.master_state.specs.declared.events.Event.{Event};
 
-use compact_lists::EventList;
+use compact_lists::{EventList, hold};
 use master_state::Event;
+use node_ids::{SplitSet, WorkerNo};
 use std::alloc::{AllocError, Global};
 use std::marker::Model;
 
 // An accepted call by its place in the history and its event.
-#[derive(Clone, Copy, Debug)]
-pub(crate) struct Entry {
+#[derive(Drop)]
+pub(crate) struct Entry<'a> {
     pub(crate) place: u32,
-    pub(crate) event: Event,
+    pub(crate) event: Event<'a>,
 }
 
-// The accepted calls of a hand, with all the room that they will have.
+// The accepted calls of a hand, with room for a number of them.
 #[derive(Drop)]
 pub(crate) struct Entries {
     places: Vec<u32>,
@@ -44,6 +49,16 @@ impl Entries {
         Ok(Entries { places, events })
     }
 
+    // Gives them room for so many in all.
+    pub(crate) fn make_room(&mut self, room: u32) -> Result<(), AllocError>
+        requires { self.old.room ≤ room }
+        ensures ok { OnOk result (self.new ≡ record self.old { room = room }) }
+        ensures err { OnErr result (self.new ≡ self.old) }
+    {
+        hold(&mut self.places, room as usize)?;
+        self.events.make_room(room)
+    }
+
     // How many there are.
     pub(crate) fn len(&self) -> usize
         ensures { result ≡ length self.now.items }
@@ -52,7 +67,7 @@ impl Entries {
     }
 
     // The entry at an index.
-    pub(crate) fn at(&self, index: usize) -> Entry
+    pub(crate) fn at(&self, index: usize) -> Entry<'_>
         requires { index < length self.now.items }
         ensures { slice_get self.now.items index ≡ Some result }
     {
@@ -63,7 +78,7 @@ impl Entries {
     }
 
     // The last one.
-    pub(crate) fn last(&self) -> Option<Entry>
+    pub(crate) fn last(&self) -> Option<Entry<'_>>
         ensures value { result ≡ slice_get self.now.items (length self.now.items - 1) }
         ensures none { result ≡ None → self.now.items ≡ [] }
     {
@@ -90,13 +105,40 @@ impl Entries {
         self.events.is_same(index, history, place - 1)
     }
 
-    // One entry more, for which there is room.
-    pub(crate) fn push(&mut self, place: u32, event: &Event)
-        requires { length self.old.items < self.old.room }
+    // The greatest place of an entry, or the least place that is given, where that is greater.
+    pub(crate) fn greatest_place(&self, least: usize) -> usize
+        requires low { least ≤ 1048577 }
+        requires places { All (λ entry. IsPlace entry.place) self.now.items }
+        ensures most { result ≤ 1048577 }
+        ensures least { least ≤ result }
+        ensures entries { All (λ entry. entry.place ≤ result) self.now.items }
+    {
+        let mut greatest = least;
+        for index in 0..self.len() {
+            greatest = greatest.max(self.at(index).place as usize);
+        }
+        greatest
+    }
+
+    // One entry more, for which there is room. Its event is no join.
+    pub(crate) fn push(&mut self, place: u32, event: &Event<'_>)
+        requires no_join { is_join event.now ≡ false }
+        requires room { length self.old.items < self.old.room }
         ensures items { self.new.items ≡ self.old.items ++ record { place = place; event = event.now } ∷ [] }
         ensures room { self.new.room ≡ self.old.room }
     {
         self.places.push_reserved(place);
         self.events.push(event);
+    }
+
+    // The entry of a join more, for which there is room. The entries keep the set.
+    pub(crate) fn push_join(&mut self, place: u32, worker: WorkerNo, set: SplitSet)
+        requires { length self.old.items < self.old.room }
+        ensures items { self.new.items
+            ≡ self.old.items ++ record { place = place; event = Event.Join worker set } ∷ [] }
+        ensures room { self.new.room ≡ self.old.room }
+    {
+        self.places.push_reserved(place);
+        self.events.push_join(worker, set);
     }
 }

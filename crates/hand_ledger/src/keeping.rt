@@ -1,9 +1,11 @@
-ghost use Rattle.std.specs.Prelude.{◌≡◌, ◌+◌, ◌≤◌, ◌↔◌, List, ◌++◌, true, length, map, take, vec_capacity};
-ghost use Rattle.std.specs.Prelude.{IsTrue, IfOk, OnOk, OnErr};
+ghost use Rattle.std.specs.Prelude.{◌≡◌, ◌+◌, ◌^◌, ◌<◌, ◌≤◌, ◌↔◌, List, [], ◌++◌, true, false, length, map};
+ghost use Rattle.std.specs.Prelude.{All, IsTrue, IfOk, OnOk, OnErr, option_to_list, vec_capacity};
+ghost use Rattle.master_state.specs.declared.events.Event.{Event};
+ghost use Rattle.compact_lists.specs.Lists.{is_join};
 ghost use Rattle.hand_ledger.specs.Hands.{Kept, counts_in, has_room, kept, last_event, last_place, new_hand};
-ghost use Rattle.hand_ledger.specs.Hands.{noted, own_counts, starts_in, with_call, HandValue};
+ghost use Rattle.hand_ledger.specs.Hands.{grown, noted, starts_in, with_call, with_place, HandValue};
 ghost use Rattle.hand_ledger.specs.Inside.{IsPlace, calls_of, AreKept};
-ghost use Rattle.hand_ledger.specs.Marks.{Marks};
+ghost use Rattle.hand_ledger.specs.Marks.{AreNonePast, Marks};
 ghost use Rattle.hand_ledger.specs.declared.marks.TheConstants.{PLACES};
 ghost use Rattle.hand_ledger.specs.Settling.{AreTrue, LastStands};
 
@@ -13,6 +15,7 @@ use crate::making::Hands;
 use crate::marks::{Found, mark_all};
 use compact_lists::{CountList, EventList, add_all};
 use master_state::{Event, Limits, Start, Why};
+use node_ids::{SplitSet, WorkerNo};
 use std::alloc::{AllocError, Global};
 use std::marker::Model;
 use std::sync::ledger::{Ledger, Share};
@@ -57,19 +60,19 @@ impl<L: Ledger> Model for Hand<L> {
 
     ghost invariant = { λ h. (h.share.parts ≡ 1) × (h.share.amount ≡ length h.entries.items)
         × AreKept h.entries.items h.counts.items h.starts.items h.room
-        × (h.room.events ≤ h.entries.room) × (h.room.sweeps ≤ h.counts.room)
+        × (h.room.events ≡ h.entries.room) × (h.room.sweeps ≤ h.counts.room)
         × (h.room.attempts ≤ vec_capacity h.starts) };
 }
 
 impl<L: Ledger> Hand<L> {
-    // A hand without calls. It reserves all its room, and takes one part of the share that is left.
+    // A hand without calls. It reserves this room, and takes one part of the share that is left.
     pub(crate) fn new(
         alloc: Global,
         rest: &mut Share<L>,
         workers: usize,
         room: Limits,
     ) -> Result<Hand<L>, AllocError>
-        requires few { workers ≤ 256 }
+        requires few { workers < 2 ^ 32 }
         requires part { 1 ≤ rest.old.parts }
         requires amount { rest.old.amount ≡ 0 }
         ensures value { IfOk result (λ h. h ≡ new_hand workers room) }
@@ -91,8 +94,24 @@ impl<L: Ledger> Hand<L> {
         })
     }
 
+    /// Gives the hand room for one event more: where it has none, for twice as many events as it had room for,
+    /// for 64 at least and for 1,048,576 at most, as many as a history may have.
+    pub fn make_room(&mut self) -> Result<(), AllocError>
+        ensures ok { OnOk result (self.new ≡ with_place self.old) }
+        ensures place { OnOk result (length self.old.calls < 1048576 → has_room self.new 0 0 ≡ true) }
+        ensures err { OnErr result (self.new ≡ self.old) }
+    {
+        if self.entries.len() < self.room.events as usize {
+            return Ok(());
+        }
+        let events = grown(self.room.events);
+        self.entries.make_room(events)?;
+        self.room.events = events;
+        Ok(())
+    }
+
     /// The event of the last accepted call.
-    pub fn last(&self) -> Option<Event>
+    pub fn last(&self) -> Option<Event<'_>>
         ensures { result ≡ last_event self.now.calls }
     {
         let entry = self.entries.last()?;
@@ -109,11 +128,18 @@ impl<L: Ledger> Hand<L> {
         }
     }
 
-    /// How many events, attempts and sweeps it was made to keep.
+    /// How many events, attempts and sweeps it has room for.
     pub fn room(&self) -> Limits
         ensures { result ≡ self.now.room }
     {
         self.room
+    }
+
+    /// Of how many workers it keeps the counts of a sweep.
+    pub fn workers(&self) -> usize
+        ensures { result ≡ self.now.workers }
+    {
+        self.counts.workers()
     }
 
     /// Whether a call was answered that the hand is strange.
@@ -165,22 +191,24 @@ impl<L: Ledger> Hand<L> {
         }
     }
 
-    /// Keeps an accepted call, one more of all hands: a sweep with the counts of the workers, a wave with its
-    /// starts.
+    /// Keeps an accepted call that is no join, one more of all hands: a sweep with its counts, a wave with
+    /// its starts.
     pub fn keep(
         &mut self,
         hands: &mut Hands<L>,
         place: u32,
-        event: &Event,
-        counts: &[[u64; 256]],
+        event: &Event<'_>,
+        counts: Option<&[u64]>,
         starts: &[Start],
     )
         requires place { IsPlace place }
-        requires counts { length counts.now ≡ counts_in event.now }
+        requires no_join { is_join event.now ≡ false }
+        requires counts { length (option_to_list counts) ≡ counts_in event.now }
+        requires workers { All (λ own. length own.now ≡ self.old.workers) (option_to_list counts) }
         requires starts { length starts.now ≡ starts_in event.now }
         requires room { has_room self.old (counts_in event.now) (starts_in event.now) ≡ true }
-        ensures value { self.new ≡ with_call self.old (kept place event.now (own_counts self.old counts.now)
-            starts.now) }
+        ensures value { self.new ≡ with_call self.old (kept place event.now
+            (map (λ own. own.now) (option_to_list counts.entry)) starts.now) }
         ensures total { hands.new.total ≡ hands.old.total + 1 }
         ensures made { hands.new.made ≡ hands.old.made }
     {
@@ -189,17 +217,40 @@ impl<L: Ledger> Hand<L> {
         add_counts(&mut self.counts, counts);
         add_all(&mut self.starts, starts);
     }
+
+    /// Keeps an accepted join, one more of all hands. The hand keeps the set, so this takes no memory.
+    pub fn keep_join(&mut self, hands: &mut Hands<L>, place: u32, worker: WorkerNo, set: SplitSet)
+        requires place { IsPlace place }
+        requires room { has_room self.old 0 0 ≡ true }
+        ensures value { self.new ≡ with_call self.old (kept place (Event.Join worker set) [] []) }
+        ensures total { hands.new.total ≡ hands.old.total + 1 }
+        ensures made { hands.new.made ≡ hands.old.made }
+    {
+        hands.book.add(&mut self.share, 1);
+        self.entries.push_join(place, worker, set);
+    }
 }
 
 impl<L: Ledger> Hand<L> {
-    // Notes of each call, at its place, whether it is the one that stands there.
-    pub(crate) fn mark(&self, log: &Log<'_>, found: &mut [Found])
-        requires { length found.old ≡ PLACES }
+    // Marks each of the hand's calls whose place is in the table: whether the log has just this call there.
+    pub(crate) fn mark(&self, log: &Log<'_>, first: usize, found: &mut [Found])
+        requires size { length found.old ≡ PLACES }
+        requires few { first ≤ 1048577 }
         ensures size { length found.new ≡ PLACES }
-        ensures marks { (before : List Kept) → Marks log.now before found.old
-            → Marks log.now (before ++ self.now.calls) found.new }
+        ensures marks { (before : List Kept) → Marks log.now first before found.old
+            → Marks log.now first (before ++ self.now.calls) found.new }
     {
-        mark_all(found, log, &self.entries, &self.counts, &self.starts);
+        mark_all(found, first, log, &self.entries, &self.counts, &self.starts);
+    }
+
+    // The greatest place of a call, or the least place that is given, where that is greater.
+    pub(crate) fn greatest_place(&self, least: usize) -> usize
+        requires { least ≤ 1048577 }
+        ensures most { result ≤ 1048577 }
+        ensures least { least ≤ result }
+        ensures calls { AreNonePast result self.now.calls }
+    {
+        self.entries.greatest_place(least)
     }
 
     // Whether its notes are true of a master, which at last is short of some room or is not.
@@ -210,15 +261,26 @@ impl<L: Ledger> Hand<L> {
     }
 }
 
-// Adds the counts of these sweeps, of as many workers as the list has counts of.
-fn add_counts(list: &mut CountList, sweeps: &[[u64; 256]])
-    requires { length list.old.items + length sweeps.now ≤ list.old.room }
-    ensures items { list.new.items ≡ list.old.items ++ map (take list.old.workers) sweeps.now }
+// For how many events there is room after room for so many is used up.
+fn grown(events: u32) -> u32
+    ensures value { result ≡ grown events }
+    ensures more { events ≤ result }
+{
+    if events >= 1_048_576 {
+        return events;
+    }
+    (2 * events).max(64).min(1_048_576)
+}
+
+// Adds the counts of a sweep, if there are some.
+fn add_counts(list: &mut CountList, counts: Option<&[u64]>)
+    requires room { length list.old.items + length (option_to_list counts) ≤ list.old.room }
+    requires workers { All (λ own. length own.now ≡ list.old.workers) (option_to_list counts) }
+    ensures items { list.new.items ≡ list.old.items ++ map (λ own. own.now) (option_to_list counts.entry) }
     ensures room { list.new.room ≡ list.old.room }
     ensures workers { list.new.workers ≡ list.old.workers }
 {
-    let workers = list.workers();
-    for counts in sweeps {
-        list.push(&counts[..workers]);
+    if let Some(counts) = counts {
+        list.push(counts);
     }
 }

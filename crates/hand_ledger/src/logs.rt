@@ -1,8 +1,10 @@
-ghost use Rattle.std.specs.Prelude.{◌≡◌, ◌<◌, ◌≤◌, ◌^◌, ◌↔◌, ◌∷◌, [], IsTrue, take, drop};
+ghost use Rattle.std.specs.Prelude.{◌≡◌, ◌<◌, ◌≤◌, ◌^◌, ◌↔◌, ◌∷◌, [], IsTrue, Some, length};
+ghost use Rattle.std.specs.Prelude.{slice_get, take, drop};
 ghost use Rattle.hand_ledger.specs.Hands.{kept, counts_in, starts_in};
-ghost use Rattle.hand_ledger.specs.Settling.{call_at, event_at, counts_at, starts_at, LogValue};
+ghost use Rattle.hand_ledger.specs.Settling.{call_at, counts_at, starts_at, LogValue};
+ghost use Rattle.hand_ledger.specs.declared.entries.Entry.{Entry};
 
-use crate::entries::Entry;
+use crate::entries::Entries;
 use compact_lists::{CountList, Counts, EventList};
 use master_state::{Event, Start};
 use std::marker::Model;
@@ -41,46 +43,39 @@ impl<'a> Log<'a> {
         }
     }
 
-    // The event at a place.
-    pub(crate) fn event_at(&self, place: u32) -> Option<Event>
-        ensures { result ≡ event_at self.now.history place }
-    {
-        event_at(self.history, place)
-    }
-
-    // Whether the history has at the entry's place just this call: the entry's event, with the counts that begin
-    // at an index of a list, and with these starts.
+    // Whether the history has at the place of the entry at an index just this call: the entry's event, with
+    // the counts that begin at an index of a list, and with these starts.
     pub(crate) fn has(
         &self,
-        entry: &Entry,
+        entries: &Entries,
+        index: usize,
         counts: &CountList,
         from: usize,
         starts: &[Start],
     ) -> bool
-        ensures { IsTrue result
-            ↔ (call_at self.now entry.now.place ≡ kept entry.now.place entry.now.event
-            (take (counts_in entry.now.event) (drop from counts.now.items)) starts.now ∷ []) }
+        requires { index < length entries.now.items }
+        ensures { (entry : Entry) → slice_get entries.now.items index ≡ Some entry → (IsTrue result
+            ↔ (call_at self.now entry.place ≡ kept entry.place entry.event
+            (take (counts_in entry.event) (drop from counts.now.items)) starts.now ∷ [])) }
     {
-        let Some(event) = self.event_at(entry.place) else {
-            return false;
-        };
-        if !are_same(&event, &entry.event) {
+        if !entries.stands(index, self.history) {
             return false;
         }
-        if !self.has_counts(event, counts, from) {
+        let entry = entries.at(index);
+        if !self.has_counts(&entry.event, counts, from) {
             return false;
         }
-        self.starts_at(event) == starts
+        self.starts_at(&entry.event) == starts
     }
 
     // Whether the counts of an event are those at an index of a list. An event that is no sweep has none.
-    fn has_counts(&self, event: Event, counts: &CountList, from: usize) -> bool
+    fn has_counts(&self, event: &Event<'_>, counts: &CountList, from: usize) -> bool
         ensures { IsTrue result
-            ↔ (counts_at self.now event ≡ take (counts_in event) (drop from counts.now.items)) }
+            ↔ (counts_at self.now event.now ≡ take (counts_in event.now) (drop from counts.now.items)) }
     {
         match event {
             Event::Sweep(place) => {
-                let found = self.sweeps.get((place as usize).saturating_sub(1));
+                let found = self.sweeps.get((*place as usize).saturating_sub(1));
                 are_same_counts(&found, &counts.get(from))
             }
             _ => true,
@@ -88,26 +83,20 @@ impl<'a> Log<'a> {
     }
 
     // The starts of a wave.
-    pub(crate) fn starts_at(&self, event: Event) -> &'a [Start]
-        ensures { result.now ≡ starts_at self.now event }
+    fn starts_at(&self, event: &Event<'_>) -> &'a [Start]
+        ensures { result.now ≡ starts_at self.now event.now }
     {
         match event {
             Event::Wave { first, count, .. } => {
-                part(self.starts, first.index().saturating_sub(1), count as usize)
+                part(
+                    self.starts,
+                    first.index().saturating_sub(1),
+                    *count as usize,
+                )
             }
             _ => part(self.starts, 0, 0),
         }
     }
-}
-
-// The event at a place. Places count from 1.
-fn event_at(history: &EventList, place: u32) -> Option<Event>
-    ensures { result ≡ event_at history.now.items place }
-{
-    if place == 0 {
-        return None;
-    }
-    history.get(place as usize - 1)
 }
 
 // Whether the counts of two sweeps are the same, or there are none of either.
@@ -121,16 +110,9 @@ fn are_same_counts(counts: &Option<Counts<'_>>, others: &Option<Counts<'_>>) -> 
     }
 }
 
-// Whether two events are one and the same.
-fn are_same(event: &Event, other: &Event) -> bool
-    ensures { IsTrue result ↔ (event.now ≡ other.now) }
-{
-    *event == *other
-}
-
 // How many counts stand for an event.
-pub(crate) fn counts_in(event: Event) -> usize
-    ensures value { result ≡ counts_in event }
+pub(crate) fn counts_in(event: &Event<'_>) -> usize
+    ensures value { result ≡ counts_in event.now }
     ensures few { result ≤ 1 }
 {
     match event {
@@ -140,12 +122,12 @@ pub(crate) fn counts_in(event: Event) -> usize
 }
 
 // How many starts do.
-pub(crate) fn starts_in(event: Event) -> usize
-    ensures value { result ≡ starts_in event }
+pub(crate) fn starts_in(event: &Event<'_>) -> usize
+    ensures value { result ≡ starts_in event.now }
     ensures bound { result < 2 ^ 32 }
 {
     match event {
-        Event::Wave { count, .. } => count as usize,
+        Event::Wave { count, .. } => *count as usize,
         _ => 0,
     }
 }

@@ -1,4 +1,4 @@
-ghost use Rattle.std.specs.Prelude.{◌≡◌, ◌+◌, ◌≤◌, ◌↔◌, length, Err, IfOk, OnErr, OnOk};
+ghost use Rattle.std.specs.Prelude.{◌≡◌, ◌+◌, ◌^◌, ◌<◌, ◌≤◌, ◌↔◌, length, Err, IfOk, OnErr, OnOk};
 ghost use Rattle.hand_ledger.specs.Hands.{new_hand, HandsValue};
 ghost use Rattle.hand_ledger.specs.Settling.{all_calls};
 ghost use Rattle.hand_ledger.specs.declared.making.HandError.{HandError};
@@ -58,14 +58,14 @@ impl<L: Ledger> Hands<L> {
         self.made
     }
 
-    /// A hand without a call, with all the room that it will have, for a master of so many workers.
+    /// A hand without a call, with this room, for a master of so many workers.
     pub fn hand(
         &mut self,
         alloc: Global,
         workers: usize,
         room: Limits,
     ) -> Result<Hand<L>, HandError>
-        requires { workers ≤ 256 }
+        requires { workers < 2 ^ 32 }
         ensures value { IfOk result (λ h. h ≡ new_hand workers room) }
         ensures made { OnOk result (self.new.made ≡ self.old.made + 1) }
         ensures total { self.new.total ≡ self.old.total }

@@ -1,7 +1,7 @@
 -- What is said of the script and the head that were read is said of the text.
 use Rattle.std.proofs.Common.{ℕ, List, Result, Ok, Err, ◌≡◌, refl, subst, sym}
 use Rattle.std.specs.Result.{IsErrAnd}
-use Rattle.line_shapes.specs.Lines.{Statement}
+use Rattle.line_rules.specs.Known.{Known}
 use Rattle.line_rules.specs.declared.purpose.Purpose.TheVariants.{Playing}
 use Rattle.command_runner.specs.declared.tool_error.NoAnswer.{NoAnswer}
 use Rattle.command_runner.specs.declared.tool_error.NoAnswer.TheVariants as none
@@ -15,21 +15,23 @@ use Rattle.script_text.specs.declared.script.Script.{Script}
 use Rattle.script_text.specs.declared.script.ScriptText.{ScriptText}
 use Rattle.job_play.specs.Reports.{IsReport}
 use Rattle.job_play.specs.Rooms.{IsScriptFor, RunsOut, setup_for}
-use Rattle.job_play.specs.PlayAnswer.{PlaysRead, RunsOutIn, cluster_in, declared_cluster, want_of}
+use Rattle.job_play.specs.PlayAnswer.{PlaysRead, RunsOutIn, cluster_in, declared_cluster, holder_limit_in}
+use Rattle.job_play.specs.PlayAnswer.{want_of}
 use Rattle.job_play.specs.declared.player.PlayEnd.{PlayEnd}
 use Rattle.job_play.specs.declared.player.PlayError.{PlayError}
 use Rattle.job_play.specs.declared.player.PlayError.TheVariants.{HistoryFull, Memory}
 
 -- a head makes the cluster that its rows declare
-pub same_cluster : (rows : List Statement) (head : Head) → MakesHead rows head →
-    cluster_in head ≡ declared_cluster rows
-same_cluster rows head makes = λ i. record {
+pub same_cluster : (k : Known) (head : Head) → MakesHead k.version k.rows head →
+    cluster_in head ≡ declared_cluster k
+same_cluster k head makes = λ i. record {
   tree = makes.tree i;
   slots = makes.slots i;
   splits = makes.splits i;
   texts = makes.texts i;
   parts = makes.parts i;
   silence = makes.silence i;
+  holder_limit = holder_limit_in (makes.version i);
 }
 
 pub plays_read : (text : List ℕ) (v : ScriptText) (end : PlayEnd) (lines : List ℕ)
@@ -41,7 +43,7 @@ plays_read text v end lines is report = record {
   read = is.read;
   declares = is.declares;
   report = subst (λ (c : Cluster). IsReport (setup_for c v.script) v.script end lines)
-      (same_cluster is.known.rows v.head is.head) report;
+      (same_cluster is.known v.head is.head) report;
 }
 
 pub runs_out_in : (text : List ℕ) (v : ScriptText) → IsScriptOf Playing text v
@@ -51,7 +53,7 @@ runs_out_in text v is out = record {
   script = v.script;
   read = is.read;
   declares = is.declares;
-  runs_out = subst (λ (c : Cluster). RunsOut c v.script) (same_cluster is.known.rows v.head is.head) out;
+  runs_out = subst (λ (c : Cluster). RunsOut c v.script) (same_cluster is.known v.head is.head) out;
 }
 
 -- the room of a history is wanting where it was so in playing

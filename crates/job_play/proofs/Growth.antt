@@ -2,8 +2,7 @@
 use Rattle.std.proofs.Common.{◌≡◌, ℕ, ◌+◌, ◌-◌, ◌*◌, ◌<◌, ◌≤◌, true, List, [], ◌∷◌, ◌++◌, Option, Some, None}
 use Rattle.std.proofs.Common.{length, refl, sym, ap, ◌∙◌, subst, arith, All, cond, min, take, drop, get_or}
 use Rattle.std.proofs.Common.{length-append, inl, inr}
-use Rattle.std.specs.Prelude.{fold, filter, zip, count_by}
-use Rattle.std.specs.List.{range_with_len}
+use Rattle.std.specs.Prelude.{fold, zip, count_by}
 use Rattle.std.proofs.lemmas.Bool.{leb-true, ltb-true, or_cases}
 use Rattle.std.proofs.lemmas.List.{length-map, drop_more, take-append-drop}
 use Rattle.std.proofs.lemmas.List.Sums.{sum_by-cons}
@@ -11,7 +10,7 @@ use Rattle.std.proofs.lemmas.List.Elements.{All-head, All-tail}
 use Rattle.std.proofs.lemmas.Slice.Zip.{length-zip}
 use Rattle.wave_problem.specs.Assignment.{IsBest, pairs_from, pairs_of}
 use Rattle.wave_problem.proofs.Bound.{pending_known}
-use Rattle.worker_table.specs.Workers.{swept, is_silent}
+use Rattle.worker_table.specs.Workers.{silent_in, swept}
 use Rattle.master_state.specs.declared.answers.Answer.TheVariants as answer
 use Rattle.master_state.specs.declared.states.Start.{Start}
 use Rattle.master_state.specs.declared.states.Work.{Work}
@@ -77,10 +76,9 @@ adds_after : (s : State) (call : Call) → Adds s (after s call) (started_by cal
 adds_after s (Sweep counts) =
     let heard : State = record s {
       workers = swept s.workers counts;
-      sweeps = s.sweeps ++ take (length s.workers.each) counts ∷ [];
+      sweeps = s.sweeps ++ counts ∷ [];
     } in
-    let dead = filter (is_silent (swept s.workers counts))
-    (range_with_len 0 (length (swept s.workers counts).each)) in
+    let dead = silent_in (swept s.workers counts) in
     adds_none s (after s (Sweep counts)) (ap (λ (n : ℕ). n + 1) (died_events heard dead))
     (died_starts heard dead)
 adds_after s ReduceStart = adds_one s (after s ReduceStart) _ _ refl refl

@@ -1,11 +1,9 @@
 -- What no command changes, and which runs stay in the table.
 use Rattle.std.proofs.Common.{◌≡◌, ◌≢◌, inl, inr, ℕ, List, [], ◌∷◌, ◌++◌, refl, sym, ap, ◌∙◌, subst, All}
-use Rattle.std.proofs.Common.{take}
-use Rattle.std.specs.Prelude.{fold, filter, length}
-use Rattle.std.specs.List.{range_with_len}
+use Rattle.std.specs.Prelude.{fold}
 use Rattle.std.proofs.lemmas.List.Elements.{All-push}
 use Rattle.wave_problem.specs.Assignment.{pairs_of}
-use Rattle.worker_table.specs.Workers.{swept, is_silent}
+use Rattle.worker_table.specs.Workers.{silent_in, swept}
 use Rattle.master_state.specs.declared.answers.Answer.TheVariants as answer
 use Rattle.master_state.specs.declared.states.Start.{Start}
 use Rattle.master_state.specs.declared.states.Work.TheVariants as works
@@ -44,12 +42,8 @@ have_after : (setup : Setup) (table : List Runs) (s : State) (call : Call) → c
     Have setup table s.starts → Have setup table (after s call).starts
 have_after setup table s (Sweep counts) other have =
     have_died setup table
-    (record s {
-      workers = swept s.workers counts;
-      sweeps = s.sweeps ++ take (length s.workers.each) counts ∷ [];
-    })
-    (filter (is_silent (swept s.workers counts)) (range_with_len 0 (length (swept s.workers counts).each)))
-    have
+    (record s { workers = swept s.workers counts; sweeps = s.sweeps ++ counts ∷ [] })
+    (silent_in (swept s.workers counts)) have
 have_after setup table s ReduceStart other have = absurd (other refl)
 have_after setup table s (Backup split w) other have =
     All-push (λ (start : Start). HasRuns setup table start.work) s.starts

@@ -1,28 +1,28 @@
 -- Sets of splits that are known.
-use Rattle.std.proofs.Common.{◌≡◌, ℕ, ◌*◌, ◌/◌, ◌<◌, ◌≤◌, inl, inr, List, [], ◌∷◌, length, refl, ◌∙◌, subst}
-use Rattle.std.proofs.Common.{sym, arith, length-set, All}
-use Rattle.std.specs.Prelude.{fold}
-use Rattle.std.proofs.lemmas.List.Elements.{All-head, All-tail}
-use Rattle.node_ids.specs.Sets.{Has, with_number, no_splits}
-use Rattle.node_ids.proofs.Bits.{has-set, has-replicate}
-use Rattle.job_play.specs.Reports.{set_of}
+use Rattle.std.proofs.Common.{ℕ, List, [], ◌∷◌, Bool, true, false, cond, All}
+use Rattle.std.specs.Prelude.{◌==◌, fold, nat_lt}
+use Rattle.std.proofs.lemmas.List.Elements.{All-cons, All-head, All-nil, All-tail}
+use Rattle.node_ids.specs.Sets.{row_of_all, row_with}
 
--- members that are put into a set of 1,024 places are below what all of both are
-members_below : (count : ℕ) (splits set : List ℕ) → count ≤ 1024 → length set ≡ 16 →
-    ((k : ℕ) → Has set k → k < count) → All (λ s. s < count) splits →
-    (k : ℕ) → Has (fold with_number set splits) k → k < count
-members_below count [] set few size old all k has = old k has
-members_below count (s ∷ splits) set few size old all k has =
-    let first : s < count = All-head (λ s. s < count) s splits all in
-    let inside : s < 64 * length set = omega (arith, first, few, size) in
-    members_below count splits (with_number set s) few (length-set set (s / 64) _ ∙ size)
-    (λ j new. elim ((has-set set s j inside).0 new) [
-      | inl same ↦ subst (λ n. n < count) (sym same) first
-      | inr was ↦ old j was
-    ])
-    (All-tail (λ s. s < count) s splits all) k has
+either : (P : ℕ → Type 0) (b : Bool) (xs ys : List ℕ) → All P xs → All P ys → All P (cond b xs ys)
+either P true xs ys first other = first
+either P false xs ys first other = other
 
-pub set_below : (count : ℕ) (splits : List ℕ) → count ≤ 1024 → All (λ s. s < count) splits → (k : ℕ) →
-    Has (set_of splits) k → k < count
-set_below count splits few all k has =
-    members_below count splits no_splits few refl (λ j none. absurd (has-replicate 16 j none)) all k has
+-- a row with one more in it that is known
+known_with : (P : ℕ → Type 0) (n : ℕ) (row : List ℕ) → P n → All P row → All P (row_with n row)
+known_with P n [] one all = All-cons P n [] one (All-nil P)
+known_with P n (m ∷ row) one all =
+    let rest = known_with P n row one (All-tail P m row all) in
+    either P (nat_lt n m) _ _ (All-cons P n (m ∷ row) one all)
+    (either P (n == m) _ _ all (All-cons P m (row_with n row) (All-head P m row all) rest))
+
+known_from : (P : ℕ → Type 0) (splits row : List ℕ) → All P row → All P splits
+    → All P (fold (λ now n. row_with n now) row splits)
+known_from P [] row old all = old
+known_from P (n ∷ splits) row old all =
+    known_from P splits (row_with n row) (known_with P n row (All-head P n splits all) old)
+    (All-tail P n splits all)
+
+-- the row of splits that are known
+pub known_row : (P : ℕ → Type 0) (splits : List ℕ) → All P splits → All P (row_of_all splits)
+known_row P splits all = known_from P splits [] (All-nil P) all

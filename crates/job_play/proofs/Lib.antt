@@ -2,10 +2,10 @@ pub mod Writing
 pub mod Calls
 pub mod Kept
 pub mod Played
-pub mod Telling
 pub mod Known
 pub mod Started
 pub mod Handed
 pub mod Growth
 pub mod Answered
 pub mod Made
+pub mod Told

@@ -13,19 +13,16 @@ use Rattle.master_state.specs.States.{start_of, next_attempt}
 use Rattle.master_state.specs.Tests.{next_part, next_worker}
 use Rattle.master_state.specs.Refusals.{Call, MapDone, PartDone, ReduceStart, Sweep, Backup}
 use Rattle.master_state.specs.Jobs.{Job, Answers, AnswersReduce, AnswersSweep, Plain}
-use Rattle.master_state.specs.Jobs.{IsAccepted, IsIgnored, IsReply, died_in, plain}
-use Rattle.node_ids.specs.Sets.{has_number}
+use Rattle.master_state.specs.Jobs.{IsAccepted, IsIgnored, IsReply, plain}
 use Rattle.script_text.specs.declared.script.Names.{Names}
 use Rattle.script_text.specs.declared.script.Command.{Command}
 use Rattle.script_text.specs.declared.script.Command.TheVariants as command
-use Rattle.report_lines.specs.Lines.{accepted_line, answer_line, backup_line, dead_line, dead_lines}
+use Rattle.report_lines.specs.Lines.{accepted_line, answer_line, backup_line, dead_lines}
 use Rattle.report_lines.specs.Lines.{ignored_line, reduce_line}
-use Rattle.text_lines.specs.Texts.{numbers_of}
-use Rattle.job_play.specs.Reports.{IsTold, Performs, Does, DoesSplit, DoesPart, FailsAttempt, FailsWork, alone}
-use Rattle.job_play.specs.Reports.{deaths, told}
+use Rattle.job_play.specs.Reports.{IsTold, Performs, Does, DoesSplit, DoesPart, FailsAttempt, FailsWork}
+use Rattle.job_play.specs.Reports.{alone, deaths, told}
 use Rattle.job_play.specs.Handing.{HandsSplit, HandsPart}
 use Rattle.job_play.specs.Playing.{IsAnswered, Performed}
-use Rattle.job_play.proofs.Telling.{those_agree}
 
 told_alone : (given : Plain) → answer_line given ≡ told given (alone given)
 told_alone (answer.Accepted place rest) = sym (append-nil (answer_line (answer.Accepted place rest)))
@@ -177,9 +174,7 @@ sweep_accepted names old new counts dead place before mid now answers first next
       out = accepted_line place ++ told;
       is_told = record { answer = answer.Accepted place tt; answers = answers.answer; out_is = refl };
       written = written_more before mid now (accepted_line place) told first
-          (next ∙ ap (λ (lines : List ℕ). mid ++ lines)
-          (those_agree (has_number dead) (died_in old counts (answer.Accepted place tt))
-          (dead_line names.workers) (numbers_of names.workers) answers.dead_are));
+          (next ∙ ap (λ (those : List ℕ). mid ++ dead_lines names.workers those) answers.dead_are);
     }
 
 pub sweep_ignored : (names : Names) (old new : Job) (counts dead : List ℕ) (why : Why) (before now : List ℕ) →

@@ -5,3 +5,4 @@ pub mod Handing
 pub mod Rooms
 pub mod PlayAnswer
 pub mod OneAnswer
+pub mod Pasts

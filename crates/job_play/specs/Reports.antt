@@ -1,9 +1,9 @@
 -- What the report of a script may be. A relation: which best wave is started stays free.
-use Rattle.std.specs.Prelude.{ℕ, ◌≡◌, ◌+◌, ◌-◌, true, false, List, [], ◌∷◌, ◌++◌, length, fold}
-use Rattle.std.specs.Prelude.{replicate, Option, Some, None}
-use Rattle.node_ids.specs.Sets.{no_splits, with_number}
+use Rattle.std.specs.Prelude.{ℕ, ◌≡◌, ◌+◌, ◌-◌, true, false, List, [], ◌∷◌, ◌++◌, length}
+use Rattle.std.specs.Prelude.{replicate, take, Option, Some, None}
+use Rattle.node_ids.specs.Sets.{row_of_all}
 use Rattle.wave_problem.specs.Assignment.{IsBest, pairs_of}
-use Rattle.text_lines.specs.Texts.{Word, numbers_of}
+use Rattle.text_lines.specs.Texts.{Word}
 use Rattle.word_map.specs.Texts.{SplitDocuments}
 use Rattle.word_map.specs.Entries.{EntryView}
 use Rattle.word_map.specs.Runs.{MapView}
@@ -30,8 +30,7 @@ use Rattle.script_text.specs.declared.script.Command.{Command}
 use Rattle.script_text.specs.declared.script.Command.TheVariants as command
 use Rattle.report_lines.specs.Lines.{accepted_line, ignored_line, started_line, backup_line}
 use Rattle.text_lines.specs.WaveLine.{wave_line}
-use Rattle.report_lines.specs.Lines.{reduce_line, dead_line, copy_lines, index_lines, stuck_lines}
-use Rattle.report_lines.specs.Lines.{lines_of_those}
+use Rattle.report_lines.specs.Lines.{reduce_line, dead_lines, copy_lines, index_lines, stuck_lines}
 use Rattle.job_play.specs.declared.player.PlayEnd.{PlayEnd}
 use Rattle.job_play.specs.declared.player.PlayEnd.TheVariants as finish
 
@@ -107,18 +106,13 @@ FailsAttempt old a (Some start) out new = FailsWork old a start.work out new
 
 -- ---- the other commands
 
--- a count for each of 256 workers, 0 for those that have none
-abbrev pub padded : List ℕ → List ℕ
-padded counts = counts ++ replicate (256 - length counts) 0
-
--- the splits as a set
-abbrev pub set_of : List ℕ → List ℕ
-set_of splits = fold with_number no_splits splits
+-- a count for each of so many workers: 0 for a worker without one; counts past the last worker are left out
+abbrev pub counts_for : ℕ → List ℕ → List ℕ
+counts_for workers counts = take workers counts ++ replicate (workers - length counts) 0
 
 -- those who died, by number
 abbrev pub deaths : Names → Job → List ℕ → Plain → List ℕ
-deaths names old counts answer =
-    lines_of_those (died_in old counts answer) (dead_line names.workers) (numbers_of names.workers)
+deaths names old counts answer = dead_lines names.workers (died_in old counts answer)
 
 pub record Copies (names : Names) (target : ℕ) (old : Job) (out : List ℕ) (new : Job) : Type 0 where
   pub orders : List CopyOrder
@@ -137,11 +131,12 @@ Performs names target old (command.Backup s w) out new =
     IsTold old (Backup s w) (λ _. backup_line names.splits names.workers (next_attempt old.state) s w) out new
 Performs names target old (command.Die w) out new = IsTold old (Die w) alone out new
 Performs names target old (command.Join w splits) out new =
-    IsTold old (Join w (set_of splits.items)) alone out new
+    IsTold old (Join w (row_of_all splits.items)) alone out new
 Performs names target old (command.Add s w) out new = IsTold old (Add s w) alone out new
 Performs names target old (command.Lose s w) out new = IsTold old (Lose s w) alone out new
 Performs names target old (command.Sweep counts) out new =
-    IsTold old (Sweep (padded counts.items)) (deaths names old (padded counts.items)) out new
+    let swept = counts_for (length old.setup.cluster.slots) counts.items in
+    IsTold old (Sweep swept) (deaths names old swept) out new
 Performs names target old command.Reduce out new =
     IsTold old ReduceStart
     (λ _. reduce_line names.workers (next_attempt old.state) (next_part old.state) (next_worker old.state))

@@ -48,7 +48,7 @@ pub record IsScriptFor (setup : Setup) (script : Script) : Type 0 where
   pub workers : length script.names.workers ≡ length setup.cluster.slots
   pub splits : length script.names.splits ≡ length setup.cluster.splits
   pub known : All (IsKnownCommand setup) script.commands.items
-  pub few : length script.commands.items ≤ 65536
+  pub few : length script.commands.items ≤ 1048576
 
 -- A legal history answers the commands before a wave, and leaves fewer of the greatest number of attempts
 -- than some best plan starts there.

@@ -38,7 +38,7 @@ fn is_known(workers: usize, splits: usize, command: &Command) -> bool
         | Command::Lose(split, worker) => { split.index() < splits && worker.index() < workers }
         Command::Die(worker) => worker.index() < workers,
         Command::Join(worker, set) => worker.index() < workers && are_below(splits, set.as_slice()),
-        Command::Sweep(counts) => counts.len() <= 256,
+        Command::Sweep(counts) => counts.len() <= 32_768,
         _ => true,
     }
 }

@@ -12,6 +12,7 @@ pub mod ending;
 mod fitting;
 pub mod given;
 mod handing;
+mod pasts;
 pub mod performing;
 mod player;
 pub mod playing;
@@ -25,4 +26,4 @@ pub use player::{
 };
 pub use playing::{play, play_observed};
 pub use rooms::{MAX_ATTEMPTS, MAX_COMMANDS, limits_for};
-pub use tables::{counts_of, set_of};
+pub use tables::counts_for;

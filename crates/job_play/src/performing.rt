@@ -1,27 +1,29 @@
 ghost use Rattle.std.specs.Prelude.{◌≡◌, ◌≢◌, ℕ, ◌<◌, ◌≤◌, All, Err, OnOk, length, string_bytes};
-ghost use Rattle.master_state.specs.declared.TheConstants.{MAX_JOB_WORKERS};
 ghost use Rattle.report_lines.specs.Reports.{report_bytes};
 ghost use Rattle.script_text.specs.declared.script.Command.TheVariants as asked;
-ghost use Rattle.job_play.specs.Reports.{IsKnownCommand, LacksRoom, alone, deaths, padded, set_of};
+ghost use Rattle.node_ids.specs.Sets.{row_of_all};
+ghost use Rattle.job_play.specs.Reports.{IsKnownCommand, LacksRoom, alone, counts_for, deaths};
 ghost use Rattle.master_state.specs.Refusals.{Call, IsPair};
 ghost use Rattle.job_play.specs.Given.{HoldsRuns};
+ghost use Rattle.job_play.specs.Pasts.{past_at};
 ghost use Rattle.job_play.specs.Playing.{IsAnswered, Performed};
 ghost use Rattle.script_text.specs.declared.script.Names.{Names};
 
 use crate::given::GivenRuns;
 use crate::handing::{done, fail};
 use crate::player::PlayError;
-use crate::tables::{counts_of, set_of};
+use crate::tables::counts_for;
 use crate::waves::wave;
 use master_core::Master;
 use master_state::{Answer, Why};
-use node_ids::{SplitNo, WorkerNo};
+use node_ids::{SplitNo, SplitSet, WorkerNo};
 use report_lines::{
     ReportLines, add_accepted, add_answer, add_backup, add_copies, add_dead, add_ignored,
     add_reduce,
 };
 use script_text::{Command, Names, Script};
 use std::alloc::{AllocError, Global};
+use worker_table::DeadList;
 
 /// Performs a command of a script, and tells what was answered.
 pub fn perform(
@@ -33,7 +35,6 @@ pub fn perform(
     lines: &mut String,
 ) -> Result<(), PlayError>
     requires known { IsKnownCommand master.old.setup command.now }
-    requires names { length script.now.names.workers ≤ MAX_JOB_WORKERS }
     requires given { HoldsRuns given.old master.old }
     ensures given { OnOk result (HoldsRuns given.new master.new) }
     ensures ok { OnOk result (Performed script.now.names script.now.target master.old command.now
@@ -49,7 +50,7 @@ pub fn perform(
     }
 }
 
-/// The same, in a report that keeps of copies how their orders differ.
+/// The same, in a report that keeps of copies how many events came before them.
 pub(crate) fn perform_in_report(
     alloc: Global,
     master: &mut Master,
@@ -59,14 +60,19 @@ pub(crate) fn perform_in_report(
     lines: &mut ReportLines,
 ) -> Result<(), PlayError>
     requires known { IsKnownCommand master.old.setup command.now }
-    requires names { length script.now.names.workers ≤ MAX_JOB_WORKERS }
     requires given { HoldsRuns given.old master.old }
+    requires seen { lines.old.turns.seen ≤ length master.old.history }
     ensures given { OnOk result (HoldsRuns given.new master.new) }
+    ensures seen { OnOk result (lines.new.turns.seen ≤ length master.new.history) }
     ensures ok { OnOk result (Performed script.now.names script.now.target master.old command.now
-        (report_bytes script.now.names.splits script.now.names.workers lines.old)
-        (report_bytes script.now.names.splits script.now.names.workers lines.new) master.new) }
+        (report_bytes script.now.names.splits script.now.names.workers
+        (past_at master.old script.now.target) lines.old)
+        (report_bytes script.now.names.splits script.now.names.workers
+        (past_at master.new script.now.target) lines.new) master.new) }
     ensures full { result ≡ Err PlayError.HistoryFull → (command.now ≡ asked.Wave) × LacksRoom master.old }
 {
+    lines.are_in_turn();
+    master.is_kept();
     match command {
         Command::Copies => Ok(keep_copies(alloc, master, script.target, lines)?),
         _ => perform(alloc, master, given, script, command, &mut lines.last),
@@ -80,12 +86,14 @@ fn keep_copies(
     target: usize,
     lines: &mut ReportLines,
 ) -> Result<(), AllocError>
-    ensures { (names : Names) → OnOk result (Performed names target master.now asked.Copies
-        (report_bytes names.splits names.workers lines.old)
-        (report_bytes names.splits names.workers lines.new) master.now) }
+    requires { lines.old.turns.seen ≤ length master.now.history }
+    ensures seen { OnOk result (lines.new.turns.seen ≤ length master.now.history) }
+    ensures ok { (names : Names) → OnOk result (Performed names target master.now asked.Copies
+        (report_bytes names.splits names.workers (past_at master.now target) lines.old)
+        (report_bytes names.splits names.workers (past_at master.now target) lines.new) master.now) }
 {
-    let orders = master.copy_orders(alloc, target)?;
-    lines.add_copies(alloc, orders)
+    master.is_kept();
+    lines.add_copies(alloc, master.copy_count(target), master.events())
 }
 
 // Performs a command that starts neither a wave nor a part, and tells what was answered.
@@ -99,7 +107,6 @@ fn tell(
 ) -> Result<(), AllocError>
     requires kind { (command.now ≢ asked.Wave) × (command.now ≢ asked.Reduce) }
     requires known { IsKnownCommand master.old.setup command.now }
-    requires names { length script.now.names.workers ≤ MAX_JOB_WORKERS }
     requires given { HoldsRuns given.now master.old }
     ensures { OnOk result (Performed script.now.names script.now.target master.old command.now
         (string_bytes lines.old) (string_bytes lines.new) master.new) }
@@ -111,10 +118,10 @@ fn tell(
         Command::Withdraw(attempt) => add_answer(lines, master.withdraw(*attempt)),
         Command::Backup(split, worker) => backup(master, names, *split, *worker, lines),
         Command::Die(worker) => add_answer(lines, master.die(*worker)),
-        Command::Join(worker, splits) => join(master, *worker, splits.as_slice(), lines),
+        Command::Join(worker, splits) => join(alloc, master, *worker, splits.as_slice(), lines),
         Command::Add(split, worker) => add_answer(lines, master.add(*split, *worker)),
         Command::Lose(split, worker) => add_answer(lines, master.lose(*split, *worker)),
-        Command::Sweep(counts) => sweep(master, names, counts.as_slice(), lines),
+        Command::Sweep(counts) => sweep(alloc, master, names, counts.as_slice(), lines),
         Command::Copies => copies(alloc, master, names, script.target, lines),
         Command::Wave | Command::Reduce => unreachable!(),
     }
@@ -143,6 +150,7 @@ fn backup(
 
 // Lets the worker live again as a holder of the splits, and tells the answer.
 fn join(
+    alloc: Global,
     master: &mut Master,
     worker: WorkerNo,
     splits: &[SplitNo],
@@ -150,31 +158,33 @@ fn join(
 ) -> Result<(), AllocError>
     requires worker { worker < length master.old.setup.cluster.slots }
     requires splits { All (λ s. s < length master.old.setup.cluster.splits) splits.now }
-    ensures { OnOk result (IsAnswered master.old (Call.Join worker (set_of splits.now)) alone
+    ensures { OnOk result (IsAnswered master.old (Call.Join worker (row_of_all splits.now)) alone
         (string_bytes lines.old) (string_bytes lines.new) master.new) }
 {
     master.is_kept();
-    add_answer(lines, master.join(worker, &set_of(splits)))
+    let set = SplitSet::of(alloc, splits)?;
+    add_answer(lines, master.join(worker, set))
 }
 
 // Hands in the counts, and tells who died.
 fn sweep(
+    alloc: Global,
     master: &mut Master,
     names: &Names<'_>,
     counts: &[u64],
     lines: &mut String,
 ) -> Result<(), AllocError>
-    requires counts { length counts.now ≤ 256 }
-    requires names { length names.now.workers ≤ MAX_JOB_WORKERS }
-    ensures { OnOk result (IsAnswered master.old (Call.Sweep (padded counts.now))
-        (deaths names.now master.old (padded counts.now))
+    ensures { let own = counts_for (length master.old.setup.cluster.slots) counts.now in
+        OnOk result (IsAnswered master.old (Call.Sweep own) (deaths names.now master.old own)
         (string_bytes lines.old) (string_bytes lines.new) master.new) }
 {
-    let swept = master.sweep(&counts_of(counts));
-    match swept.answer {
+    let workers = master.cluster().slots().len();
+    let own = counts_for(alloc, workers, counts)?;
+    let mut dead = DeadList::with_room(alloc, workers)?;
+    match master.sweep(&own, &mut dead) {
         Answer::Accepted(place, ()) => {
             add_accepted(lines, place)?;
-            add_dead(lines, &names.workers, &swept.dead)
+            add_dead(lines, &names.workers, dead.as_slice())
         }
         Answer::Ignored(why, ()) => add_ignored(lines, why),
     }

@@ -1,11 +1,13 @@
-ghost use Rattle.std.specs.Prelude.{◌≡◌, Err, IfOk, OnOk, length};
+ghost use Rattle.std.specs.Prelude.{◌≡◌, ◌≤◌, Err, IfOk, OnOk, length};
 ghost use Rattle.report_lines.specs.Reports.{made_bytes, report_bytes};
 ghost use Rattle.job_play.specs.Reports.{IsReport, opening_job};
+ghost use Rattle.job_play.specs.Pasts.{past_at};
 ghost use Rattle.job_play.specs.Playing.{PerformedAll};
 ghost use Rattle.job_play.specs.Rooms.{IsScriptFor, RunsOut, setup_for};
 
 use crate::ending::add_end;
 use crate::given::GivenRuns;
+use crate::pasts::past_of;
 use crate::performing::perform_in_report;
 use crate::rooms::limits_for;
 use master_core::{Cluster, Master};
@@ -90,29 +92,31 @@ pub fn play_script_observed<O: ScriptObserver>(
     ensures full { result ≡ Err PlayError.HistoryFull → RunsOut cluster script.now }
 {
     let limits = limits_for(cluster.splits().len(), script.commands.as_slice());
-    let mut master = Master::new(alloc, cluster, limits)?;
-    report_of(alloc, &mut master, script, observer)
+    let master = Master::new(alloc, cluster, limits)?;
+    report_of(alloc, master, script, observer)
 }
 
 // Plays a script on a new master, and tells the report.
 fn report_of<O: ScriptObserver>(
     alloc: Global,
-    master: &mut Master,
+    master: Master,
     script: &Script<'_>,
     observer: &O,
 ) -> Result<Report, PlayError>
-    requires script { IsScriptFor master.old.setup script.now }
-    requires opening { master.old ≡ opening_job (setup_for master.old.setup.cluster script.now) }
-    ensures report { IfOk result (λ report. IsReport (setup_for master.old.setup.cluster script.now) script.now
+    requires script { IsScriptFor master.setup script.now }
+    requires opening { master ≡ opening_job (setup_for master.setup.cluster script.now) }
+    ensures report { IfOk result (λ report. IsReport (setup_for master.setup.cluster script.now) script.now
         report.end (made_bytes report.lines)) }
-    ensures full { result ≡ Err PlayError.HistoryFull → RunsOut master.old.setup.cluster script.now }
+    ensures full { result ≡ Err PlayError.HistoryFull → RunsOut master.setup.cluster script.now }
 {
     let names = &script.names;
+    let mut master = master;
     let mut lines = ReportLines::new(alloc);
-    perform_all(alloc, master, script, observer, &mut lines)?;
-    let end = add_end(alloc, master, names, &mut lines.last)?;
+    perform_all(alloc, &mut master, script, observer, &mut lines)?;
+    let end = add_end(alloc, &master, names, &mut lines.last)?;
     master.is_kept();
-    let lines = MadeReport::new(alloc, &names.splits, &names.workers, lines)?;
+    let past = past_of(alloc, master, script.target)?;
+    let lines = MadeReport::new(alloc, &names.splits, &names.workers, lines, past)?;
     Ok(Report { end, lines })
 }
 
@@ -126,10 +130,14 @@ fn perform_all<O: ScriptObserver>(
 ) -> Result<(), PlayError>
     requires script { IsScriptFor master.old.setup script.now }
     requires opening { master.old ≡ opening_job (setup_for master.old.setup.cluster script.now) }
+    requires seen { lines.old.turns.seen ≤ length master.old.history }
     ensures setup { OnOk result (master.new.setup ≡ master.old.setup) }
     ensures ok { OnOk result (PerformedAll script.now.names script.now.target master.old
-        script.now.commands.items (report_bytes script.now.names.splits script.now.names.workers lines.old)
-        (report_bytes script.now.names.splits script.now.names.workers lines.new) master.new) }
+        script.now.commands.items
+        (report_bytes script.now.names.splits script.now.names.workers
+        (past_at master.old script.now.target) lines.old)
+        (report_bytes script.now.names.splits script.now.names.workers
+        (past_at master.new script.now.target) lines.new) master.new) }
     ensures full { result ≡ Err PlayError.HistoryFull → RunsOut master.old.setup.cluster script.now }
 {
     master.is_kept();

@@ -7,7 +7,7 @@ use master_state::Limits;
 use script_text::Command;
 
 /// The most commands that a script has.
-pub const MAX_COMMANDS: usize = 65_536;
+pub const MAX_COMMANDS: usize = 1_048_576;
 
 /// The most attempts that a master has room for.
 pub const MAX_ATTEMPTS: usize = 1_000_000;
@@ -16,7 +16,7 @@ pub const MAX_ATTEMPTS: usize = 1_000_000;
 /// each wave, for each backup and for each reduce.
 pub fn limits_for(splits: usize, commands: &[Command]) -> Limits
     requires splits { splits ≤ MAX_SPLITS }
-    requires commands { length commands.now ≤ 65536 }
+    requires commands { length commands.now ≤ 1048576 }
     ensures value { result ≡ limits_for splits commands.now }
     ensures small { AreAllowed result }
 {

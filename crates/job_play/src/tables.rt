@@ -1,28 +1,15 @@
-ghost use Rattle.std.specs.Prelude.{◌≡◌, ◌≤◌, ◌<◌, All, length};
-ghost use Rattle.job_play.specs.Reports.{padded, set_of};
+ghost use Rattle.std.specs.Prelude.{◌≡◌, IfOk};
+ghost use Rattle.job_play.specs.Reports.{counts_for};
 
-use node_ids::{SplitNo, SplitSet};
+use std::alloc::{AllocError, Global};
 
-/// A count for each of 256 workers, 0 for those that have none.
-pub fn counts_of(counts: &[u64]) -> [u64; 256]
-    requires { length counts.now ≤ 256 }
-    ensures { result ≡ padded counts.now }
+/// A count for each of so many workers: 0 for a worker without one. Counts past the last worker are left out.
+pub fn counts_for(alloc: Global, workers: usize, counts: &[u64]) -> Result<Vec<u64>, AllocError>
+    ensures { IfOk result (λ own. own.items ≡ counts_for workers counts.now) }
 {
-    let mut table = [0; 256];
-    for i in 0..counts.len() {
-        table[i] = counts[i];
+    let mut own = vec![in alloc; 0; workers]?;
+    for i in 0..counts.len().min(workers) {
+        own[i] = counts[i];
     }
-    table
-}
-
-/// The splits as a set, which has no split past those.
-pub fn set_of(splits: &[SplitNo]) -> SplitSet
-    requires { All (λ split. split < 1024) splits.now }
-    ensures { result ≡ set_of splits.now }
-{
-    let mut set = SplitSet::new();
-    for split in splits {
-        set.put(*split);
-    }
-    set
+    Ok(own)
 }

@@ -65,5 +65,5 @@ runs_read asked text v end lines is tells = record {
   read = is.read;
   declares = is.declares;
   tells = subst (λ (cluster : Cluster). TellsJob (setup_on cluster) v.script.names asked end lines)
-      (same_cluster is.known.rows v.head is.head) tells;
+      (same_cluster is.known v.head is.head) tells;
 }

@@ -1,5 +1,5 @@
 -- What running a job answers to its text.
-use Rattle.std.specs.Prelude.{ℕ, Bool, List, [], ◌++◌, ◌≡◌, Ok, Err, if◌then◌else◌, length}
+use Rattle.std.specs.Prelude.{ℕ, ◌+◌, ◌*◌, max, min, Bool, List, [], ◌++◌, ◌≡◌, Ok, Err, if◌then◌else◌, length}
 use Rattle.std.specs.declared.result.Result.{Result}
 use Rattle.text_lines.specs.declared.fault.TextFault.{TextFault}
 use Rattle.line_rules.specs.Known.{Known}
@@ -29,13 +29,17 @@ use Rattle.job_run.specs.declared.running.RunEnd.TheVariants as finish
 use Rattle.job_run.specs.declared.running.RunTextError.{RunTextError}
 use Rattle.job_run.specs.declared.running.RunTextError.TheVariants as error
 
--- the room that a run has
-abbrev pub run_room : Limits
-run_room = record { events = 65536; attempts = 65536; sweeps = 16384 }
+-- the room of a run with so many splits and parts: for eight events and eight attempts of each, for 65,536 at
+-- least, and for no more than a master may have
+abbrev pub run_room : ℕ → Limits
+run_room tasks =
+    let each = max 65536 (8 * tasks) in
+    record { events = min 1048576 each; attempts = min 1000000 each; sweeps = 16384 }
 
 -- a cluster with the job that is run on it
 abbrev pub setup_on : Cluster → Setup
-setup_on cluster = record { cluster = cluster; limits = run_room }
+setup_on cluster =
+    record { cluster = cluster; limits = run_room (length cluster.splits + cluster.parts) }
 
 -- the lines with which a run of this job ends so, of a master that has done all its parts or is stuck with it
 abbrev pub TellsEnd : Setup → Names → master.Job → RunEnd → List ℕ → Type 0
@@ -76,7 +80,7 @@ pub record RunsRead (asked : Bool) (text : List ℕ) (end : JobEnd) (lines : Lis
   pub script : Script
   pub read : IsAllRead Running text known
   pub declares : Declares known script
-  pub tells : TellsJob (setup_on (declared_cluster known.rows)) script.names asked end lines
+  pub tells : TellsJob (setup_on (declared_cluster known)) script.names asked end lines
 
 -- the lines with which running ends so, without or with all that was done
 abbrev pub RunAnswer : Bool → List ℕ → Result JobEnd TextFault → List ℕ → Type 0
@@ -91,7 +95,8 @@ ran_as (Err (error.Run why)) = Ok (job.Broken why)
 
 -- the job of a head, with the room that a run has
 abbrev pub job_in : Head → ℕ → Job
-job_in head target = record { cluster = cluster_in head; target = target; limits = run_room }
+job_in head target =
+    record { cluster = cluster_in head; target = target; limits = (setup_on (cluster_in head)).limits }
 
 -- the split of each text of the master has a name
 abbrev pub HasTextsNamed : Names → Record → Type 0

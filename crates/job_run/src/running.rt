@@ -4,11 +4,12 @@ ghost use Rattle.command_runner.specs.CommandRun.{AnyLines, HasRun, NoText, Wrot
 ghost use Rattle.report_lines.specs.Lines.{index_lines};
 ghost use Rattle.script_text.specs.Scripts.{IsOfHead, IsTarget};
 ghost use Rattle.script_text.specs.Heads.{IsFitHead};
-ghost use Rattle.master_state.specs.States.{Setup};
+ghost use Rattle.master_state.specs.States.{AreAllowed, Setup};
 ghost use Rattle.job_threads.specs.Outcomes.{IsRecordOf};
 ghost use Rattle.job_play.specs.PlayAnswer.{AreEnds, cluster_in};
-ghost use Rattle.job_run.specs.RunAnswer.{HasTextsNamed, IsToldAs, RunAnswer, TellsEnd, TellsJob, TellsRun, done_lines};
-ghost use Rattle.job_run.specs.RunAnswer.{job_in, ran_as, setup_on};
+ghost use Rattle.job_run.specs.RunAnswer.{HasTextsNamed, IsToldAs, RunAnswer, TellsEnd, TellsJob, TellsRun};
+ghost use Rattle.job_run.specs.RunAnswer.{done_lines};
+ghost use Rattle.job_run.specs.RunAnswer.{job_in, ran_as, run_room, setup_on};
 
 use crate::index_text::index_text;
 use crate::letting_go::let_go;
@@ -175,7 +176,7 @@ fn run_read<T: Threads + Wait + Clock + Sync, G: Gate, O: Observer>(
     requires fit { IsFitHead read.head }
     requires known { IsOfHead read.head read.script }
     requires target { IsTarget read.script.target }
-    requires few { length read.head.slots.items ≤ 32 }
+    requires few { length read.head.slots.items ≤ 1024 }
     ensures tells { IfOk result (λ told. TellsJob (setup_on (cluster_in read.entry.head))
         read.entry.script.names asked told.1 (string_bytes told.0)) }
     ensures over { IfOk result (λ told. told.1 ≡ JobEnd.Broken RunError.GateLimit → G.may_end ≡ true) }
@@ -190,19 +191,30 @@ fn run_read<T: Threads + Wait + Clock + Sync, G: Gate, O: Observer>(
 fn job_of(alloc: Global, head: Head, script: &Script<'_>) -> Result<Job, AllocError>
     requires fit { IsFitHead head }
     requires target { IsTarget script.now.target }
-    ensures { IfOk result (λ job. job ≡ job_in head script.now.target) }
+    ensures value { IfOk result (λ job. job ≡ job_in head script.now.target) }
+    ensures allowed { IfOk result (λ job. AreAllowed job.limits) }
 {
+    let tasks = head.splits.len() + head.parts;
     let cluster = cluster_of(alloc, head)?;
-    let limits = Limits {
-        events: 65_536,
-        attempts: 65_536,
-        sweeps: 16_384,
-    };
     Ok(Job {
         cluster,
         target: script.target as u8,
-        limits,
+        limits: run_room(tasks),
     })
+}
+
+// The room of a run with so many splits and parts.
+fn run_room(tasks: usize) -> Limits
+    requires { tasks ≤ 131136 }
+    ensures room { result ≡ run_room tasks }
+    ensures allowed { AreAllowed result }
+{
+    let each = (8 * tasks).max(65_536);
+    Limits {
+        events: each.min(1_048_576) as u32,
+        attempts: each.min(1_000_000) as u32,
+        sweeps: 16_384,
+    }
 }
 
 // The lines of a run; none where the job has no outcome.
@@ -214,7 +226,7 @@ fn tell<T: Threads + Wait>(
     asked: bool,
 ) -> Result<(String, JobEnd), AllocError>
     requires named { IfOk ended (HasTextsNamed names.now) }
-    requires few { length names.now.workers ≤ 32 }
+    requires few { length names.now.workers ≤ 1024 }
     ensures end { IfOk result (λ told. IsToldAs ended told.1) }
     ensures tells { (given : Setup) → IfOk ended (IsRecordOf given)
         → IfOk result (λ told. TellsJob given names.now asked told.1 (string_bytes told.0)) }
@@ -237,7 +249,7 @@ fn tell_run<T: Threads + Wait>(
     asked: bool,
 ) -> Result<(String, RunEnd), AllocError>
     requires named { HasTextsNamed names.now ran }
-    requires few { length names.now.workers ≤ 32 }
+    requires few { length names.now.workers ≤ 1024 }
     ensures { (given : Setup) → IsRecordOf given ran
         → IfOk result (λ told. TellsRun given names.now asked told.1 (string_bytes told.0)) }
 {
@@ -267,7 +279,7 @@ fn add_done(
     lines: &mut String,
 ) -> Result<(), AllocError>
     requires named { length names.now.splits ≡ length master.now.setup.cluster.texts }
-    requires few { length names.now.workers ≤ 32 }
+    requires few { length names.now.workers ≤ 1024 }
     ensures { OnOk result (string_bytes lines.new
         ≡ string_bytes lines.old ++ (if asked then done_lines names.now master.now else [])) }
 {

@@ -3,6 +3,7 @@ use crate::gates::{HoldsUntil, Outlives, Seen, Silences};
 use crate::jobs::{AMPLE, SplitRow, job_of};
 use crate::told::{Told, add_number, run_rows, tell};
 use job_threads::{RunError, run};
+use master_state::Limits;
 use std::sync::atomic::Ordering;
 
 // The one worker is held in its first map through so many sweeps that it dies, and its split has no other
@@ -43,20 +44,25 @@ fn a_death_by_sweeps_loses_no_split(rt: HostRuntime) {
     assert!(rt; gate.seen.begun.load(Ordering::SeqCst) >= 2);
 }
 
-// A worker that dies after each 1,000 maps, and returns, has made 4,096 calls at last, and its hand is
-// full. Of each 1,000 maps one comes too late.
+// A worker that dies after each 1,000 maps, and returns, never has all maps. Its hand grows with its calls,
+// and the run ends where the history is full. At least every second event is the end of a map, but for the
+// sweeps.
 #[test]
-fn a_full_hand_ends_the_run(rt: HostRuntime) {
+fn a_hand_grows_until_the_history_is_full(rt: HostRuntime) {
     let rows: [SplitRow<'_>; 1024] = [(5, &[0], "one"); 1024];
     let gate = Silences::new(51, 1000);
-    let job = job_of(&rt, rt.alloc(), &[16], &rows, 1, 50, AMPLE).expect(&rt, "no job");
+    let limits = Limits {
+        events: 8_192,
+        ..AMPLE
+    };
+    let job = job_of(&rt, rt.alloc(), &[16], &rows, 1, 50, limits).expect(&rt, "no job");
     let told = tell(&rt, rt.alloc(), run(&rt, rt.alloc(), job, &gate));
     assert!(rt;
         matches!(told, Told::Error(RunError::HistoryFull)),
         "{told:?}"
     );
     let begun = gate.seen.begun.load(Ordering::SeqCst);
-    assert!(rt; begun > 4096 && begun < 5000, "{begun}");
+    assert!(rt; begun > 3500 && begun < 8192, "{begun}");
 }
 
 // Four workers fill their lanes: 16 starts each at once, and the first maps are held until all four have one.

@@ -25,7 +25,7 @@ impl Observer for Deaths {
 }
 
 // Adds what a copy or a second attempt says: the split and the worker.
-fn tell_event(rt: &impl Abort, alloc: Global, lines: &mut String, event: &Event) {
+fn tell_event(rt: &impl Abort, alloc: Global, lines: &mut String, event: &Event<'_>) {
     match event {
         Event::Add(split, worker) | Event::Backup(_, split, worker) => {
             add_number(rt, alloc, lines, "", split.index());

@@ -4,6 +4,7 @@ ghost use Rattle.std.specs.List.{range_with_len};
 ghost use Rattle.shuffle_reduce.specs.Gather.{values_of};
 ghost use Rattle.master_state.specs.States.{AreAllowed};
 
+use block_map::HolderLimit;
 use job_threads::Job;
 use master_core::Cluster;
 use master_state::Limits;
@@ -109,7 +110,8 @@ pub fn job_of(
     let lines = lines_of(alloc, rows)?;
     let texts = texts_of(rt, alloc, rows)?;
     assert!(rt; lines.len() == rows.len());
-    let cluster = Cluster::new(alloc, tree, slots, lines, texts, parts, silence).ok()?;
+    let eight = HolderLimit::Eight;
+    let cluster = Cluster::new(alloc, tree, slots, lines, texts, parts, silence, eight).ok()?;
     assert!(rt; cluster.slots().len() <= 32);
     Some(Job {
         cluster,

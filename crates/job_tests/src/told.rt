@@ -59,7 +59,7 @@ pub fn tell(rt: &impl Abort, alloc: Global, outcome: Result<Outcome, RunError>) 
         }
         Ok(Outcome::Stuck(master)) => {
             let mut open = String::new(alloc);
-            for split in 0..master.cluster().splits().len().min(1024) {
+            for split in 0..master.cluster().splits().len() {
                 if !is_done(&master, split) {
                     add_number(rt, alloc, &mut open, " ", split);
                 }
@@ -72,7 +72,7 @@ pub fn tell(rt: &impl Abort, alloc: Global, outcome: Result<Outcome, RunError>) 
 
 /// Whether a split is done.
 pub fn is_done(master: &Master, split: usize) -> bool {
-    split < 1024
+    split < 131_072
         && split < master.cluster().splits().len()
         && matches!(
             master.state(SplitNo::new(split as u32)),

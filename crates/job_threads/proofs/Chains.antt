@@ -1,29 +1,29 @@
 -- The numbers below the next one, and steps of which an answer tells.
-use Rattle.std.proofs.Common.{◌≡◌, ℕ, ◌+◌, ◌-◌, ◌^◌, ◌||◌, Bool, true, false, suc, min, List, [], ◌∷◌, ◌++◌}
-use Rattle.std.proofs.Common.{add-one, ◌<◌, ◌⊎◌, ◌∙◌, ap, append_assoc, inl, inr, length, map, refl, subst, sym}
-use Rattle.std.proofs.Common.{Option, None, Some, Ok, Err}
-use Rattle.std.specs.Prelude.{if◌then◌else◌, slice_get, slice_index, slice_index_or, IfErr, IfOk, IsOk}
-use Rattle.std.specs.Prelude.{IsTrue, MatchResult, OnOk, not}
+use Rattle.std.proofs.Common.{◌≡◌, ℕ, ◌+◌, ◌-◌, ◌||◌, Bool, false, List, [], ◌∷◌, ◌++◌}
+use Rattle.std.proofs.Common.{add-one, ◌<◌, ◌⊎◌, ◌∙◌, ap, append_assoc, inl, inr, length, map, refl, subst}
+use Rattle.std.proofs.Common.{sym}
+use Rattle.std.proofs.Common.{Option, None, Some, Ok, Err, ◌==◌, get_or}
+use Rattle.std.specs.Prelude.{slice_get, slice_index, slice_index_or, IfErr, IfOk, IsOk}
+use Rattle.std.specs.Prelude.{MatchResult, OnOk, not}
 use Rattle.std.specs.declared.result.Result.{Result}
+use Rattle.std.proofs.lemmas.Grind.{get_or_default_zero}
 use Rattle.std.proofs.lemmas.List.{map-append}
-use Rattle.node_ids.specs.Sets.{Has, has_number}
 use Rattle.job_threads.specs.Chains.{EachBelow, OnlyIf}
 use Rattle.job_threads.specs.declared.holdings.Holding.{Holding}
-use Rattle.job_threads.specs.Holdings.{HasMember, all_buried, buried, changed_at, deaths_after, has_risen}
+use Rattle.job_threads.specs.Holdings.{all_buried, buried, changed_at, has_risen}
 use Rattle.job_threads.specs.Holdings.{upto}
 use Rattle.job_threads.specs.Steps.{IsBack, IsBackIf, IsBackedUp, IsBackedUpToo, IsMapStartSent, IsStartSent}
 use Rattle.job_threads.specs.Steps.{AreCopied, Follows, IsSwept, Known, Sent, known}
-use Rattle.job_threads.specs.Steps.{IsAnswered, IsRefused, IsStepError, judged}
+use Rattle.job_threads.specs.Steps.{IsStepError, judged}
 use Rattle.job_threads.specs.declared.outcome.RunError.{RunError}
 use Rattle.job_threads.specs.declared.outcome.RunError.TheVariants as ends
 use Rattle.job_threads.specs.Outcomes.{IsRecordOf}
 use Rattle.job_threads.specs.Settled.{AreSettled, ConcludesAs, RecordsAs, SettlesAs}
 use Rattle.job_threads.specs.declared.outcome.Record.{Record}
-use Rattle.master_state.specs.Jobs.{Job}
+use Rattle.master_state.specs.Jobs.{Job, Plain}
 use Rattle.hand_ledger.specs.Settling.{IsLowestTorn}
 use Rattle.shared_master.specs.Held.{IsMasterOf, is_short, log_of}
 use Rattle.master_state.specs.States.{Setup}
-use Rattle.master_state.specs.declared.answers.Swept.{Swept}
 use Rattle.hand_ledger.specs.Hands.{HandValue, last_place}
 use Rattle.shared_master.specs.Steps.{AreDeadOf, IsKeptSweep}
 use Rattle.master_state.specs.declared.states.Start.{Start}
@@ -36,21 +36,21 @@ all_buried_zero dead told workers = refl
 
 pub all_buried_next : (dead told : List ℕ) (n : ℕ) (workers : List Holding) →
     all_buried dead told (n + 1) workers ≡
-    (if has_number dead n then changed_at (buried (slice_index told n)) (all_buried dead told n workers) n
-    else all_buried dead told n workers)
+    changed_at (buried (slice_index told (slice_index dead n))) (all_buried dead told n workers)
+    (slice_index dead n)
 unfolding all_buried
 all_buried_next dead told n workers = rw add-one
 
-pub deaths_after_zero : (dead : List ℕ) (deaths : ℕ) → deaths_after dead 0 deaths ≡ deaths
-unfolding deaths_after
-deaths_after_zero dead deaths = refl
-
-pub deaths_after_next : (dead : List ℕ) (n deaths : ℕ) →
-    deaths_after dead (n + 1) deaths ≡
-    (if has_number dead n then min (deaths_after dead n deaths + 1) (2 ^ 32 - 1)
-    else deaths_after dead n deaths)
-unfolding deaths_after
-deaths_after_next dead n deaths = rw add-one
+-- one more of the dead is buried
+pub one_buried : (dead told seen list : List ℕ) (first before after : List Holding) (n w : ℕ)
+    → before ≡ all_buried dead told n first → seen ≡ told → list ≡ dead → n < length dead
+    → w ≡ get_or list n w
+    → after ≡ changed_at (buried (slice_index seen w)) before w → after ≡ all_buried dead told (n + 1) first
+one_buried dead told seen list first before after n w was told_is list_is inside w_is done =
+    let at : w ≡ slice_index dead n =
+    w_is ∙ ap (λ xs. get_or xs n w) list_is ∙ get_or_default_zero dead n w inside in
+    done ∙ (λ k. changed_at (buried (slice_index (told_is k) (at k))) (was k) (at k))
+    ∙ sym (all_buried_next dead told n first)
 
 pub upto_zero : upto 0 ≡ []
 unfolding upto
@@ -64,11 +64,6 @@ upto_next n = rw add-one
 pub on_ok : {T E : Type 0} (r : Result T E) (P : Type 0) → P → OnOk r P
 on_ok (Ok x) P p = p
 on_ok (Err e) P p = tt
-
-pub has_member : (set : List ℕ) (empty : Bool) → (IsTrue empty → (n : ℕ) → Has set n → ⊥) →
-    (empty ≡ false → (n : ℕ) × Has set n) → HasMember set (not empty)
-has_member set true none some = none refl
-has_member set false none some = some refl
 
 -- a step of a worker that may have risen
 pub back_more : (told seen : List ℕ) (splits few w v : ℕ) (rose r : Bool) (before after : Known) →
@@ -84,11 +79,10 @@ back_more told seen splits few w v rose r before after told_is few_is w_is is ba
 )
 
 -- a split more was backed up
-pub backed_up_more : (texts : List SplitDocuments) (workers split s : ℕ) (put r : Bool)
-    (before after : Sent) → s ≡ split → IsBackedUp texts workers s before put after →
-    IsBackedUpToo texts workers split (before, r) (after, r || put)
-backed_up_more texts workers split s put r before after is backed =
-    (put, subst (λ (x : ℕ). IsBackedUp texts workers x before put after) is backed, refl)
+pub backed_up_more : (setup : Setup) (split s : ℕ) (put r : Bool) (before after : Sent) → s ≡ split →
+    IsBackedUp setup s before put after → IsBackedUpToo setup split (before, r) (after, r || put)
+backed_up_more setup split s put r before after is backed =
+    (put, subst (λ (x : ℕ). IsBackedUp setup x before put after) is backed, refl)
 
 -- a start more was sent
 pub start_more : (shared : SharedWave) (texts : List SplitDocuments) (k a : ℕ) (start : Start) (put r : Bool)
@@ -110,46 +104,50 @@ start_more shared texts k a start put r before after within is attempt sends = r
 
 -- what follows a sweep, of what each step says
 pub follows_so : (setup : Setup) (target splits few : ℕ) (told seen dead : List ℕ)
-    (workers left : List Holding) (hand same : HandValue) (died rose : Bool) (copied after : Known) →
-    left ≡ all_buried dead told 256 workers → same ≡ hand → HasMember dead died →
-    OnlyIf died (AreCopied setup target) (known left same) copied → seen ≡ told → few ≡ splits →
-    EachBelow (IsBackIf seen few) 256 (copied, false) (after, rose) →
+    (workers left : List Holding) (hand same : HandValue) (rose : Bool) (copied after : Known) →
+    left ≡ all_buried dead told (length dead) workers → same ≡ hand →
+    OnlyIf (not (length dead == 0)) (AreCopied setup target) (known left same) copied →
+    seen ≡ told → few ≡ splits →
+    EachBelow (IsBackIf seen few) (length seen) (copied, false) (after, rose) →
     Follows setup target splits told dead (known workers hand) rose after
-follows_so setup target splits few told seen dead workers left hand same died rose copied after
-    buried_is hand_is died_is copies told_is few_is joined = record {
-      died = died;
-      died_is = died_is;
+follows_so setup target splits few told seen dead workers left hand same rose copied after
+    buried_is hand_is copies told_is few_is joined = record {
       copied = copied;
       copies = subst
-          (λ (ws : List Holding). OnlyIf died (AreCopied setup target) (known ws hand) copied) buried_is
-          (subst (λ (h : HandValue). OnlyIf died (AreCopied setup target) (known left h) copied) hand_is
-          copies);
-      joined = subst (λ (n : ℕ). EachBelow (IsBackIf told n) 256 (copied, false) (after, rose)) few_is
-          (subst (λ (t : List ℕ). EachBelow (IsBackIf t few) 256 (copied, false) (after, rose)) told_is
+          (λ (ws : List Holding). OnlyIf (not (length dead == 0)) (AreCopied setup target)
+          (known ws hand) copied)
+          buried_is
+          (subst
+          (λ (h : HandValue). OnlyIf (not (length dead == 0)) (AreCopied setup target) (known left h) copied)
+          hand_is copies);
+      joined = subst
+          (λ (n : ℕ). EachBelow (IsBackIf told n) (length told) (copied, false) (after, rose)) few_is
+          (subst (λ (t : List ℕ). EachBelow (IsBackIf t few) (length t) (copied, false) (after, rose)) told_is
           joined);
     }
 
-pub swept_so : (setup : Setup) (target splits few : ℕ) (told seen : List ℕ) (workers same : List Holding)
-    (hand answered : HandValue) (swept : Swept) (rose : Bool) (after : Known) →
+pub swept_so : (setup : Setup) (target splits few : ℕ) (told seen dead : List ℕ) (workers same : List Holding)
+    (hand answered : HandValue) (answer : Plain) (rose : Bool) (after : Known) →
     told ≡ seen → few ≡ splits → same ≡ workers →
-    IsKeptSweep hand told swept.answer answered → judged swept.answer (last_place answered.calls) ≡ Ok tt →
-    AreDeadOf setup told swept →
-    Follows setup target few told swept.dead (known same answered) rose after →
+    IsKeptSweep hand told answer answered → judged answer (last_place answered.calls) ≡ Ok tt →
+    AreDeadOf setup told answer dead →
+    Follows setup target few told dead (known same answered) rose after →
     IsSwept setup target splits seen (known workers hand) rose after
-swept_so setup target splits few told seen workers same hand answered swept rose after
-    told_is few_is same_is kept passes dead follows = record {
-      swept = swept;
+swept_so setup target splits few told seen dead workers same hand answered answer rose after
+    told_is few_is same_is kept passes dead_are follows = record {
+      answer = answer;
       answered = answered;
-      kept = subst (λ (t : List ℕ). IsKeptSweep hand t swept.answer answered) told_is kept;
+      kept = subst (λ (t : List ℕ). IsKeptSweep hand t answer answered) told_is kept;
       passes = passes;
-      dead = subst (λ (t : List ℕ). AreDeadOf setup t swept) told_is dead;
+      dead = dead;
+      dead_are = subst (λ (t : List ℕ). AreDeadOf setup t answer dead) told_is dead_are;
       follows = subst
-          (λ (t : List ℕ). Follows setup target splits t swept.dead (known workers answered) rose after)
+          (λ (t : List ℕ). Follows setup target splits t dead (known workers answered) rose after)
           told_is
           (subst
-          (λ (n : ℕ). Follows setup target n told swept.dead (known workers answered) rose after) few_is
+          (λ (n : ℕ). Follows setup target n told dead (known workers answered) rose after) few_is
           (subst
-          (λ (ws : List Holding). Follows setup target few told swept.dead (known ws answered) rose after)
+          (λ (ws : List Holding). Follows setup target few told dead (known ws answered) rose after)
           same_is follows));
     }
 
@@ -218,10 +216,3 @@ pub laned_more : {A B C : Type 0} (f : A → C) (g : B → C) (first before afte
 laned_more f g first before after all new x is so here =
     here ∙ ap (λ (l : List _). l ++ g x ∷ []) so ∙ append_assoc (map f first) (map g all) (g x ∷ [])
     ∙ ap (λ (l : List _). map f first ++ l) (sym (map-append g all (x ∷ [])) ∙ ap (map g) (sym is))
-
--- a worker was asked in vain
-pub refused_more : (split w v : ℕ) (attempt : Option ℕ) (before after : HandValue) → v ≡ w → attempt ≡ None →
-    IsAnswered split v attempt before after → IsRefused split w before after
-refused_more split w v attempt before after w_is none asked =
-    subst (λ (a : Option ℕ). IsAnswered split w a before after) none
-    (subst (λ (x : ℕ). IsAnswered split x attempt before after) w_is asked)

@@ -34,8 +34,8 @@ handed_over our their passes left is one other settles = (
 -- what is said of all readers is said of the one
 pub counted : (seats : List SeatValue) (reader : ReaderValue) (readers : List ReaderValue)
     (counts : List ℕ) → readers ≡ reader ∷ [] →
-    ((w : ℕ) → w < 256 → slice_index counts w ≡ beats_by w seats) →
-    ((w : ℕ) → w < 256 → AreToldOnce w (slice_index counts w) seats) →
+    ((w : ℕ) → w < 1024 → slice_index counts w ≡ beats_by w seats) →
+    ((w : ℕ) → w < 1024 → AreToldOnce w (slice_index counts w) seats) →
     All (λ (r : ReaderValue). AreWithin counts r.looks) readers → AreCounted seats reader
 counted seats reader readers counts is sums told seen = record {
   counts = counts;

@@ -1,20 +1,18 @@
 -- Looks at the workers, one number after another.
-use Rattle.std.proofs.Common.{◌≡◌, ℕ, ◌+◌, ◌<◌, ◌≤◌, ◌==◌, ◌⊎◌, inl, inr, true, false, cond, List, ◌∷◌}
+use Rattle.std.proofs.Common.{◌≡◌, ℕ, ◌+◌, ◌<◌, ◌≤◌, inl, inr, cond, List, ◌∷◌}
 use Rattle.std.proofs.Common.{length, set}
-use Rattle.std.proofs.Common.{get_or, replicate, refl, sym, ap, subst, ◌∙◌, arith}
+use Rattle.std.proofs.Common.{refl, sym, ap, subst, ◌∙◌, arith}
 use Rattle.std.specs.Prelude.{slice_index}
 use Rattle.std.proofs.lemmas.Bool.{cases_lt, ne_eqb, eq-eqb}
-use Rattle.std.proofs.lemmas.List.{get_or-replicate, get_or-set_same, get_or-set_other, length-set}
+use Rattle.std.proofs.lemmas.List.{get_or-set_same, get_or-set_other}
 use Rattle.beat_board.specs.declared.view.Look.{Look}
 use Rattle.beat_board.specs.Values.{last_seen, look}
 
 -- after the looks at the workers below n: what is known of those, and of the others
 pub record AreSoFar (first : List Look) (n : ℕ) (counts : List ℕ) (looks : List Look) : Type 0 where
-  pub size : length counts ≡ 256
   pub seen : (w : ℕ) → w < n → slice_index counts w ≡ last_seen w looks
   pub rising : (w : ℕ) → w < n → last_seen w first ≤ slice_index counts w
   pub later : (w : ℕ) → n ≤ w → last_seen w looks ≡ last_seen w first
-  pub others : (w : ℕ) → n ≤ w → w < 256 → slice_index counts w ≡ 0
 
 seen_now : (n result : ℕ) (looks : List Look) → last_seen n (look n result ∷ looks) ≡ result
 seen_now n result looks = ap (λ b. cond b result (last_seen n looks)) (eq-eqb n n refl)
@@ -24,17 +22,15 @@ seen_other : (n w result : ℕ) (looks : List Look) → (n ≡ w → ⊥) →
 seen_other n w result looks other = ap (λ b. cond b result (last_seen w looks)) (ne_eqb n w other)
 
 -- a look more
-pub so_far_more : (first : List Look) (n : ℕ) (counts : List ℕ) (looks : List Look) (result : ℕ) → n < 256 →
+pub so_far_more : (first : List Look) (n : ℕ) (counts : List ℕ) (looks : List Look) (result : ℕ) → n < length counts →
     AreSoFar first n counts looks → last_seen n looks ≤ result →
     AreSoFar first (n + 1) (set counts n result) (look n result ∷ looks)
 so_far_more first n counts looks result inside all rises =
-    let size = all.size in
     let here : slice_index (set counts n result) n ≡ result =
-    get_or-set_same counts n result 0 (omega (arith, inside, size)) in
+    get_or-set_same counts n result 0 inside in
     let there : (w : ℕ) → (w ≡ n → ⊥) → slice_index (set counts n result) w ≡ slice_index counts w =
     λ w other. get_or-set_other counts n w result 0 other in
     record {
-      size = length-set counts n result ∙ size;
       seen = λ w below. elim (cases_lt w n) [
         | inl before ↦
             let other : w ≡ n → ⊥ = λ e. omega (arith, e, before) in
@@ -58,16 +54,12 @@ so_far_more first n counts looks result inside all rises =
       ];
       later = λ w past.
           seen_other n w result looks (λ e. omega (arith, e, past)) ∙ all.later w (omega (arith, past));
-      others = λ w past few.
-          there w (λ e. omega (arith, e, past)) ∙ all.others w (omega (arith, past)) few;
     }
 
 -- before the first look
-pub so_far_none : (first : List Look) → AreSoFar first 0 (replicate 256 0) first
-so_far_none first = record {
-  size = refl;
+pub so_far_none : (first : List Look) (counts : List ℕ) → AreSoFar first 0 counts first
+so_far_none first counts = record {
   seen = λ w below. absurd (omega (arith, below));
   rising = λ w below. absurd (omega (arith, below));
   later = λ w past. refl;
-  others = λ w past few. get_or-replicate 256 w 0 0 few;
 }

@@ -36,6 +36,6 @@ AreHandedOver ours theirs = ⊥
 -- told the numbers up to it, each once, and no look saw more.
 pub record AreCounted (seats : List SeatValue) (reader : ReaderValue) : Type 0 where
   pub counts : List ℕ
-  pub sums : (w : ℕ) → w < 256 → slice_index counts w ≡ beats_by w seats
-  pub told : (w : ℕ) → w < 256 → AreToldOnce w (slice_index counts w) seats
+  pub sums : (w : ℕ) → w < 1024 → slice_index counts w ≡ beats_by w seats
+  pub told : (w : ℕ) → w < 1024 → AreToldOnce w (slice_index counts w) seats
   pub seen : AreWithin counts reader.looks

@@ -1,9 +1,11 @@
 -- What the calling thread knows of the workers: what they hold, and which are dead or stopped.
-use Rattle.std.specs.Prelude.{ℕ, ◌+◌, ◌-◌, ◌^◌, ◌<◌, ◌↔◌, ◌&&◌, nat_lt, not, zero, suc, min, replicate, Bool, true, false}
-use Rattle.std.specs.Prelude.{List, [], ◌∷◌, ◌++◌, Option, Some, None, if◌then◌else◌}
+use Rattle.std.specs.Prelude.{ℕ, ◌+◌, ◌-◌, ◌^◌, ◌<◌, ◌↔◌, ◌&&◌, nat_lt, not, zero, suc, min, replicate}
+use Rattle.std.specs.Prelude.{Bool, true, false}
+use Rattle.std.specs.Prelude.{List, [], ◌∷◌, ◌++◌, Option, Some, None}
 use Rattle.std.specs.Prelude.{length, slice_index, slice_index_or}
 use Rattle.std.specs.Prelude.{count_by, slice_get, slice_set, IsTrue}
-use Rattle.node_ids.specs.Sets.{Has, has_number, no_splits, with_number}
+use Rattle.std.specs.List.{fold}
+use Rattle.node_ids.specs.Sets.{emptied, has_number, is_in_row, no_numbers, with_number}
 use Rattle.wave_problem.specs.Wave.{Split}
 use Rattle.master_state.specs.States.{Cluster}
 use Rattle.job_threads.specs.declared.holdings.Holding.{Holding}
@@ -12,18 +14,17 @@ use Rattle.job_threads.specs.declared.holdings.Holding.{Holding}
 abbrev pub holding_too : ℕ → Holding → Holding
 holding_too split h = record h { held = with_number h.held split }
 
--- one that died, when so many of its beats were seen
+-- one that died, when so many of its beats were seen; its two tables change places
 abbrev pub buried : ℕ → Holding → Holding
-buried seen h = record h { held = no_splits; lost = h.held; seen = seen; is_dead = true }
+buried seen h = record h { held = emptied h.lost; lost = h.held; seen = seen; is_dead = true }
 
--- whether the set has a member
-abbrev pub HasMember : List ℕ → Bool → Type 0
-HasMember set true = (n : ℕ) × Has set n
-HasMember set false = (n : ℕ) → Has set n → ⊥
+-- a table with all these splits in it too
+abbrev pub with_all : List ℕ → List ℕ → List ℕ
+with_all words splits = fold with_number words splits
 
 -- one that is back with these splits
 abbrev pub back_with : List ℕ → Holding → Holding
-back_with set h = record h { held = set; is_dead = false }
+back_with set h = record h { held = with_all (emptied h.held) set; is_dead = false }
 
 -- one that was stopped
 abbrev pub stopped : Holding → Holding
@@ -50,34 +51,37 @@ all_held (suc n) splits workers =
     let holders = (slice_index_or splits n (record { bytes = 0; pending = false; holders = [] })).holders in
     held_too n (length holders) holders (all_held n splits workers)
 
--- those below n that are in the set died, when so many of their beats were told
+-- the first n of the dead died, when so many of their beats were told
 unfoldable pub all_buried : List ℕ → List ℕ → ℕ → List Holding → List Holding
 all_buried dead told zero workers = workers
 all_buried dead told (suc n) workers =
-    let before = all_buried dead told n workers in
-    if has_number dead n then changed_at (buried (slice_index told n)) before n else before
+    let w = slice_index dead n in
+    changed_at (buried (slice_index told w)) (all_buried dead told n workers) w
 
--- how many deaths were seen after these; they stay at the greatest number that a u32 has
-unfoldable pub deaths_after : List ℕ → ℕ → ℕ → ℕ
-deaths_after dead zero deaths = deaths
-deaths_after dead (suc n) deaths =
-    let before = deaths_after dead n deaths in
-    if has_number dead n then min (before + 1) (2 ^ 32 - 1) else before
+-- how many deaths were seen after so many more; they stay at the greatest number that a u32 has
+abbrev pub deaths_after : ℕ → ℕ → ℕ
+deaths_after deaths more = min (deaths + more) (2 ^ 32 - 1)
 
 -- the numbers below n, the lowest first
 unfoldable pub upto : ℕ → List ℕ
 upto zero = []
 upto (suc n) = upto n ++ n ∷ []
 
--- a worker that holds nothing
-abbrev pub empty_handed : Holding
-empty_handed = record { held = no_splits; lost = no_splits; seen = 0; is_dead = false; is_stopped = false }
+-- a worker that holds nothing, of so many splits
+abbrev pub empty_handed : ℕ → Holding
+empty_handed splits = record {
+  held = no_numbers splits;
+  lost = no_numbers splits;
+  seen = 0;
+  is_dead = false;
+  is_stopped = false;
+}
 
 -- each worker holds at first the splits of which it is a holder
 abbrev pub opened : Cluster → List Holding
 opened cluster =
-    all_held (min (length cluster.splits) 1024) cluster.splits
-    (replicate (length cluster.slots) empty_handed)
+    all_held (length cluster.splits) cluster.splits
+    (replicate (length cluster.slots) (empty_handed (length cluster.splits)))
 
 -- it is dead, was not stopped, and more of its beats are seen than when it died
 abbrev pub has_risen : ℕ → Option Holding → Bool
@@ -88,11 +92,12 @@ has_risen seen None = false
 abbrev pub holders_of : ℕ → List Holding → ℕ
 holders_of split workers = count_by (λ h. has_number h.held split) workers
 
--- with which splits a worker joins again: those that it held when it died, unless they have eight holders
+-- whether a worker joins again with a split: with each split that it held when it died and that has fewer
+-- than eight holders now
 abbrev pub may_return : List Holding → Option Holding → ℕ → Bool
 may_return workers (Some h) split = has_number h.lost split && nat_lt (holders_of split workers) 8
 may_return workers None split = false
 
 abbrev pub AreReturning : List Holding → ℕ → Option Holding → List ℕ → Type 0
 AreReturning workers splits h set =
-    (split : ℕ) → Has set split ↔ ((split < splits) × IsTrue (may_return workers h split))
+    (split : ℕ) → IsTrue (is_in_row set split) ↔ ((split < splits) × IsTrue (may_return workers h split))

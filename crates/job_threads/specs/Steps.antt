@@ -1,7 +1,7 @@
 -- What a step of a thread may add to its hand, and to the lanes.
-use Rattle.std.specs.Prelude.{ℕ, ◌+◌, ◌||◌, ◌≡◌, ◌≢◌, ◌⊎◌, Bool, true, false, List, [], ◌∷◌, ◌++◌}
+use Rattle.std.specs.Prelude.{ℕ, ◌+◌, ◌||◌, ◌≡◌, ◌⊎◌, Bool, true, false, List, [], ◌∷◌, ◌++◌}
 use Rattle.std.specs.Prelude.{◌<◌, Option, Some, None, Ok, Err, slice_get, slice_index, slice_index_or}
-use Rattle.std.specs.Prelude.{length, min, if◌then◌else◌}
+use Rattle.std.specs.Prelude.{length, not, ◌==◌, if◌then◌else◌}
 use Rattle.std.specs.Arc.{arc_value}
 use Rattle.std.specs.declared.alloc.Global.{Global}
 use Rattle.std.specs.declared.sync.Arc.{Arc}
@@ -16,22 +16,21 @@ use Rattle.master_state.specs.declared.states.Start.{Start}
 use Rattle.master_state.specs.declared.states.Work.TheVariants as works
 use Rattle.master_state.specs.declared.answers.Answer.TheVariants.{Accepted, Ignored}
 use Rattle.master_state.specs.declared.answers.Why.{Why}
-use Rattle.master_state.specs.declared.answers.Why.TheVariants.{HistoryFull, StrangeHand, WrongInput}
+use Rattle.master_state.specs.declared.answers.Why.TheVariants.{HistoryFull, StrangeHand}
 use Rattle.master_state.specs.declared.events.Event.{Event}
 use Rattle.master_state.specs.declared.events.Event.TheVariants as events
 use Rattle.master_state.specs.Jobs.{Plain}
 use Rattle.hand_ledger.specs.Hands.{HandValue, last_place}
 use Rattle.master_state.specs.declared.answers.Glance.{Glance}
 use Rattle.master_state.specs.declared.answers.Reply.{Reply}
-use Rattle.master_state.specs.declared.answers.Swept.{Swept}
 use Rattle.master_state.specs.States.{Setup}
 use Rattle.block_map.specs.declared.CopyOrder.{CopyOrder}
-use Rattle.shared_master.specs.Held.{AreCopiesOf, IsShownOf}
+use Rattle.shared_master.specs.Held.{AreCopiesOf, IsBackupWorkerOf, IsShownOf}
 use Rattle.shared_master.specs.Steps.{AreDeadOf, IsKeptAs, IsKeptBackup, IsKeptReduce, IsKeptSweep, Replies}
 use Rattle.shared_master.specs.Waves.{IsKeptWave}
 use Rattle.shared_master.specs.declared.waves.SharedWave.{SharedWave}
 use Rattle.job_threads.specs.Chains.{EachBelow, OnlyIf}
-use Rattle.job_threads.specs.Holdings.{AreReturning, HasMember, all_buried, back_with, changed_at, has_risen}
+use Rattle.job_threads.specs.Holdings.{AreReturning, all_buried, back_with, changed_at, has_risen}
 use Rattle.job_threads.specs.Holdings.{holding_too}
 use Rattle.job_threads.specs.declared.holdings.Holding.{Holding}
 use Rattle.job_threads.specs.Turns.{has_ended, idle_after}
@@ -141,23 +140,22 @@ IsBackIf told splits w before after =
 pub record Follows
     (setup : Setup) (target splits : ℕ) (told dead : List ℕ) (before : Known) (rose : Bool) (after : Known)
     : Type 0 where
-  pub died : Bool
-  pub died_is : HasMember dead died
   pub copied : Known
-  pub copies : OnlyIf died (AreCopied setup target)
-      (known (all_buried dead told 256 before.workers) before.hand) copied
-  pub joined : EachBelow (IsBackIf told splits) 256 (copied, false) (after, rose)
+  pub copies : OnlyIf (not (length dead == 0)) (AreCopied setup target)
+      (known (all_buried dead told (length dead) before.workers) before.hand) copied
+  pub joined : EachBelow (IsBackIf told splits) (length told) (copied, false) (after, rose)
 
 -- a sweep with these counts: the master answers who died, and its answer ends no run
 pub record IsSwept
     (setup : Setup) (target splits : ℕ) (told : List ℕ) (before : Known) (rose : Bool) (after : Known)
     : Type 0 where
-  pub swept : Swept
+  pub answer : Plain
   pub answered : HandValue
-  pub kept : IsKeptSweep before.hand told swept.answer answered
-  pub passes : judged swept.answer (last_place answered.calls) ≡ Ok tt
-  pub dead : AreDeadOf setup told swept
-  pub follows : Follows setup target splits told swept.dead (known before.workers answered) rose after
+  pub kept : IsKeptSweep before.hand told answer answered
+  pub passes : judged answer (last_place answered.calls) ≡ Ok tt
+  pub dead : List ℕ
+  pub dead_are : AreDeadOf setup told answer dead
+  pub follows : Follows setup target splits told dead (known before.workers answered) rose after
 
 -- what the calling thread put into the lanes, and its hand
 pub record Sent : Type 0 where
@@ -190,23 +188,29 @@ abbrev pub AreStartsSent : SharedWave → List SplitDocuments → Sent → Bool 
 AreStartsSent shared texts before started after =
     EachBelow (IsStartSent shared texts) (length shared.starts.items) (before, false) (after, started)
 
--- the worker was asked to take a second attempt of the split, and may not
-abbrev pub IsRefused : ℕ → ℕ → HandValue → HandValue → Type 0
-IsRefused split w before after = IsAnswered split w None before after
+-- the order of a second attempt was sent, if one started
+abbrev pub IsBackupSent : List SplitDocuments → ℕ → ℕ → Option ℕ → Sent → Bool → Sent → Type 0
+IsBackupSent texts split w None before started after = (started ≡ false) × (after ≡ before)
+IsBackupSent texts split w (Some a) before started after =
+    IsMapSent texts a split w started before.lanes before.hand after.lanes after.hand
 
--- A second attempt goes to the lowest worker that may take it; where none may, all were asked.
-abbrev pub IsBackedUp : List SplitDocuments → ℕ → ℕ → Sent → Bool → Sent → Type 0
-IsBackedUp texts workers split before started after =
-    (EachBelow (IsRefused split) workers before.hand after.hand × (started ≡ false)
-    × (after.lanes ≡ before.lanes))
-    ⊎ ((w : ℕ) × (a : ℕ) × (refused : HandValue) × (asked : HandValue) × (w < workers)
-    × EachBelow (IsRefused split) w before.hand refused × IsAnswered split w (Some a) refused asked
-    × IsMapSent texts a split w started before.lanes asked after.lanes after.hand)
+-- The worker was asked for, if there is one. The master may refuse it by then.
+abbrev pub IsBackedUpOn : List SplitDocuments → ℕ → Option ℕ → Sent → Bool → Sent → Type 0
+IsBackedUpOn texts split None before started after = (started ≡ false) × (after ≡ before)
+IsBackedUpOn texts split (Some w) before started after =
+    (attempt : Option ℕ) × (asked : HandValue) × IsAnswered split w attempt before.hand asked
+    × IsBackupSent texts split w attempt (sent before.lanes asked) started after
 
--- each split below n was backed up, if it could be; whether an order is in a lane so far
-abbrev pub IsBackedUpToo : List SplitDocuments → ℕ → ℕ → Sent × Bool → Sent × Bool → Type 0
-IsBackedUpToo texts workers split before after =
-    (put : Bool) × IsBackedUp texts workers split before.0 put after.0 × (after.1 ≡ (before.1 || put))
+-- a second attempt of the split was asked for on the lowest worker on which one might start, if there was one
+abbrev pub IsBackedUp : Setup → ℕ → Sent → Bool → Sent → Type 0
+IsBackedUp setup split before started after =
+    (worker : Option ℕ) × IsBackupWorkerOf setup split worker
+    × IsBackedUpOn setup.cluster.texts split worker before started after
+
+-- the split was backed up, if it could be; whether an order is in a lane so far
+abbrev pub IsBackedUpToo : Setup → ℕ → Sent × Bool → Sent × Bool → Type 0
+IsBackedUpToo setup split before after =
+    (put : Bool) × IsBackedUp setup split before.0 put after.0 × (after.1 ≡ (before.1 || put))
 
 -- a wave was planned, and its starts were sent
 pub record IsWaveStarted (setup : Setup) (before : Sent) (started : Bool) (after : Sent) : Type 0 where
@@ -262,8 +266,7 @@ MayEndWith may_end e = IsStepError e
 abbrev pub AreBackedUp : Setup → Sent → Sent → ℕ → ℕ → Type 0
 AreBackedUp setup before after idle new_idle =
     (started : Bool)
-    × EachBelow (IsBackedUpToo setup.cluster.texts (min (length setup.cluster.slots) 256))
-    (min (length setup.cluster.splits) 1024) (before, false) (after, started)
+    × EachBelow (IsBackedUpToo setup) (length setup.cluster.splits) (before, false) (after, started)
     × (new_idle ≡ (if started then 0 else idle))
 
 -- What may start by what was seen is started. Where nothing was, the turn is counted as idle; a second

@@ -1,5 +1,5 @@
 -- What a worker tells the master of its orders.
-use Rattle.std.specs.Prelude.{ℕ, ◌≡◌, ◌≢◌, ◌⊎◌, Bool, true, false, List, [], ◌∷◌, ◌++◌, length}
+use Rattle.std.specs.Prelude.{ℕ, ◌≡◌, ◌≢◌, ◌⊎◌, Bool, true, false, List, [], ◌∷◌, length}
 use Rattle.std.specs.Prelude.{Option, Some, None, IfSome}
 use Rattle.std.specs.Arc.{arc_value}
 use Rattle.std.specs.Option.{is_some}
@@ -18,7 +18,7 @@ use Rattle.master_state.specs.Jobs.{Plain}
 use Rattle.master_state.specs.Refusals.{MapDone, MapFailed, PartDone, PartFailed}
 use Rattle.master_state.specs.States.{Setup}
 use Rattle.master_state.specs.declared.states.Limits.{Limits}
-use Rattle.hand_ledger.specs.Hands.{HandValue, new_hand}
+use Rattle.hand_ledger.specs.Hands.{HandValue, new_hand, with_place}
 use Rattle.shared_master.specs.Steps.{IsKeptAs, IsStepOf}
 
 -- What a worker tells of an attempt: that it failed, where nothing was made; else that it is done, and where
@@ -73,8 +73,12 @@ IsDoneOrder setup (order.Reduce a part runs) before after =
     × ((given : Plain) × Tells (events.PartDone a) (events.PartFailed a) (is_some made) before given after)
 
 -- it does its order, or tells nothing
+abbrev pub Does : Setup → Order → HandValue → HandValue → Type 0
+Does setup given before after = (after ≡ before) ⊎ IsDoneOrder setup given before after
+
+-- it does so when its hand has been given room for a call, or passes the order over
 abbrev pub Performs : Setup → Order → HandValue → HandValue → Type 0
-Performs setup given before after = (after ≡ before) ⊎ IsDoneOrder setup given before after
+Performs setup given before after = (after ≡ before) ⊎ Does setup given (with_place before) after
 
 -- it does so with each of these orders, one after the other, and tells nothing else
 abbrev pub PerformsAll : Setup → List Order → HandValue → HandValue → Type 0
@@ -82,9 +86,9 @@ PerformsAll setup [] before after = after ≡ before
 PerformsAll setup (given ∷ orders) before after =
     (between : HandValue) × Performs setup given before between × PerformsAll setup orders between after
 
--- how many calls the hand of a worker has room for
+-- how many calls the hand of a worker has room for at first
 abbrev pub worker_room : Limits
-worker_room = record { events = 4096; attempts = 0; sweeps = 0 }
+worker_room = record { events = 64; attempts = 0; sweeps = 0 }
 
 -- The hand of a worker's thread when it ends: it has done the orders that it took from its lane, and told
 -- nothing else.

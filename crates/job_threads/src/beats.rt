@@ -1,14 +1,15 @@
-ghost use Rattle.std.specs.Prelude.{◌≡◌, ◌↔◌, ◌+◌, ◌^◌, ◌<◌, ◌≤◌, [], IfOk, IfSome, IsTrue, min, slice_get};
+ghost use Rattle.std.specs.Prelude.{◌≡◌, ◌↔◌, ◌+◌, ◌^◌, ◌<◌, ◌≤◌, IfSome, IsTrue, length, min, slice_get};
 ghost use Rattle.std.specs.Prelude.{slice_index};
 ghost use Rattle.beat_board.specs.Values.{last_seen, SeatValue};
-ghost use Rattle.job_threads.specs.Watching.{AreLooks, HaveBeaten, HaveRisen, WatchValue, is_stopped_in};
+ghost use Rattle.job_threads.specs.Watching.{AreLooks, HaveBeaten, HaveFirstBeaten, is_stopped_in};
 
 use crate::aim::Aim;
 use crate::common::{Flags, GoingOn};
 use crate::holdings::Holding;
 use beat_board::{Board, Maker, Reader, Seat};
 use node_ids::WorkerNo;
-use std::alloc::AllocError;
+use shared_master::OfJob;
+use std::alloc::{AllocError, Global};
 use std::cell::Cell;
 use std::marker::{Model, PhantomData};
 use std::time::Instant;
@@ -137,40 +138,42 @@ impl<L: Aim> Pace for Beating<'_, '_, L> {
 
 // What the calling thread sees of the board, and what of it was handed in last.
 #[derive(Drop)]
-pub(crate) struct Watch<'a, L: Aim> {
+pub(crate) struct Watch<'a, L: OfJob + Aim> {
     board: &'a Board,
     maker: Maker,
     reader: Reader,
-    workers: usize,
-    told: [u64; 256],
+    // a count for each worker of the job
+    told: Vec<u64>,
     // when it was handed in, if it was and there is a clock
     pub(crate) told_at: Option<Instant>,
     of: PhantomData<L>,
 }
 
-impl<'a, L: Aim> Model for Watch<'a, L> {
-    ghost use Rattle.std.specs.Prelude.{◌≡◌, ◌≤◌};
+impl<'a, L: OfJob + Aim> Model for Watch<'a, L> {
+    ghost use Rattle.std.specs.Prelude.{◌≡◌, ◌≤◌, length};
     ghost use Rattle.job_threads.specs.Watching.{WatchValue};
 
     ghost Value = { WatchValue };
 
-    ghost view = { λ w. record { reader = w.reader; workers = w.workers; told = w.told } };
+    ghost view = { λ w. record { reader = w.reader; told = w.told.items } };
 
     ghost invariant = { λ w. (w.maker.board ≡ w.board.now.board)
         × (w.reader.board ≡ w.board.now.board) × (w.board.now ≡ L.board)
-        × (w.workers ≡ w.board.now.workers) × (w.workers ≤ 256) };
+        × (length w.told.items ≡ w.board.now.workers) × (length w.told.items ≤ 1024)
+        × (length w.told.items ≡ length L.setup.cluster.slots) };
 }
 
-impl<'a, L: Aim> Watch<'a, L> {
-    // Of a board of so many workers.
+impl<'a, L: OfJob + Aim> Watch<'a, L> {
+    // Of a board of the job's workers.
     pub(crate) fn new(
+        alloc: Global,
         board: &'a Board,
         mut maker: Maker,
         workers: usize,
     ) -> Result<Watch<'a, L>, AllocError>
         requires board { (board.now ≡ L.board) × (maker.board ≡ board.now.board) }
-        requires workers { (workers ≡ board.now.workers) × (workers ≤ 256) }
-        ensures { IfOk result (λ w. w.workers ≡ workers) }
+        requires workers { (workers ≡ board.now.workers) × (workers ≤ 1024) }
+        requires job { workers ≡ length L.setup.cluster.slots }
     {
         let Ok(reader) = board.reader(&mut maker) else {
             return Err(AllocError);
@@ -179,8 +182,7 @@ impl<'a, L: Aim> Watch<'a, L> {
             board,
             maker,
             reader,
-            workers,
-            told: [0; 256],
+            told: vec![in alloc; 0; workers]?,
             told_at: None,
             of: PhantomData,
         })
@@ -191,7 +193,7 @@ impl<'a, L: Aim> Watch<'a, L> {
         ensures seat { IfSome result (λ p. p.worker ≡ worker) }
         ensures same { self.new ≡ self.old }
     {
-        if worker.index() >= self.workers {
+        if worker.index() >= self.told.len() {
             return None;
         }
         let seat = self.board.seat(&mut self.maker, worker).ok()?;
@@ -213,13 +215,30 @@ impl<'a, L: Aim> Watch<'a, L> {
         (self.maker, self.reader)
     }
 
-    // What is seen of the beats of each worker, by number, to be handed in.
-    pub(crate) fn counts(&mut self) -> [u64; 256]
-        ensures looks { AreLooks self.old result self.new }
-        ensures told { self.new.told ≡ result }
+    // Looks at the beats of each worker, to hand their counts in.
+    pub(crate) fn look(&mut self)
+        ensures { AreLooks self.old self.new }
     {
-        self.told = looks(self.board, &mut self.reader, self.workers);
-        self.told
+        look_at_each(self.board, &mut self.reader, &mut self.told);
+    }
+
+    // The counts that were handed in last.
+    pub(crate) fn told(&self) -> &[u64]
+        ensures value { result.now ≡ self.now.told }
+        ensures size { length result.now ≡ length L.setup.cluster.slots }
+        ensures few { length result.now ≤ 1024 }
+    {
+        &self.told
+    }
+
+    // What of a worker's beats was handed in last; 0 of one that the job has not.
+    pub(crate) fn seen_of(&self, worker: WorkerNo) -> u64
+        ensures { result ≡ slice_index self.now.told worker }
+    {
+        match self.told.get(worker.index()) {
+            Some(count) => *count,
+            None => 0,
+        }
     }
 
     // Whether of each worker that was not stopped more beats are seen than were handed in last.
@@ -227,43 +246,40 @@ impl<'a, L: Aim> Watch<'a, L> {
         ensures value { IsTrue result ↔ HaveBeaten self.new workers.now }
         ensures told { self.new.told ≡ self.old.told }
     {
-        let seen = looks(self.board, &mut self.reader, self.workers);
-        have_risen(&self.told, &seen, workers, self.workers)
-    }
-
-    // What of a worker's beats was handed in last.
-    pub(crate) fn seen_of(&self, worker: WorkerNo) -> u64
-        requires { worker < 256 }
-        ensures { result ≡ slice_index self.now.told worker }
-    {
-        self.told[worker.index()]
+        have_beaten(self.board, &mut self.reader, &self.told, workers)
     }
 }
 
-// A look at each of so many workers.
-fn looks(board: &Board, reader: &mut Reader, workers: usize) -> [u64; 256]
+// Looks at each worker, and keeps its count.
+fn look_at_each(board: &Board, reader: &mut Reader, counts: &mut Vec<u64>)
     requires board { reader.old.board ≡ board.now.board }
-    requires workers { workers ≡ board.now.workers }
-    requires few { workers ≤ 256 }
+    requires workers { length counts.old.items ≡ board.now.workers }
+    requires few { length counts.old.items ≤ 1024 }
     ensures board { reader.new.board ≡ reader.old.board }
-    ensures looks { AreLooks (record { reader = reader.old; workers = workers; told = [] }) result
-        (record { reader = reader.new; workers = workers; told = [] }) }
+    ensures looks { AreLooks (record { reader = reader.old; told = counts.old.items })
+        (record { reader = reader.new; told = counts.new.items }) }
 {
-    let mut counts = [0; 256];
-    for worker in 0..workers {
+    for worker in 0..counts.len() {
         counts[worker] = board.look(reader, WorkerNo::new(worker as u16));
     }
-    counts
 }
 
-// Whether each of the first workers that is not stopped has a count above the count that was told of it.
-fn have_risen(told: &[u64; 256], counts: &[u64; 256], workers: &[Holding], few: usize) -> bool
-    requires { few ≤ 256 }
-    ensures { IsTrue result ↔ HaveRisen told.now counts.now workers.now few }
+// Looks at each worker that was not stopped, until one has not made more beats than were told of it: whether
+// none is like that.
+fn have_beaten(board: &Board, reader: &mut Reader, told: &[u64], workers: &[Holding]) -> bool
+    requires board { reader.old.board ≡ board.now.board }
+    requires workers { length told.now ≡ board.now.workers }
+    requires few { length told.now ≤ 1024 }
+    ensures board { reader.new.board ≡ reader.old.board }
+    ensures value { IsTrue result
+        ↔ HaveFirstBeaten (length told.now) told.now reader.new.looks workers.now }
 {
-    for number in 0..few {
-        if !is_stopped(workers, number) && counts[number] <= told[number] {
-            return false;
+    for number in 0..told.len() {
+        if !is_stopped(workers, number) {
+            let seen = board.look(reader, WorkerNo::new(number as u16));
+            if seen <= told[number] {
+                return false;
+            }
         }
     }
     true

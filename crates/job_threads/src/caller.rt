@@ -3,7 +3,8 @@ ghost use Rattle.std.specs.Prelude.{OnOk};
 ghost use Rattle.job_threads.specs.declared.gate.Turn.{Turn};
 ghost use Rattle.job_threads.specs.declared.outcome.RunError.{RunError};
 ghost use Rattle.job_threads.specs.Holdings.{changed_at, stopped};
-ghost use Rattle.job_threads.specs.Steps.{AreBackedUp, EndsCalls, HasStarted, IsStepError, IsSwept, MayEndWith};
+ghost use Rattle.job_threads.specs.Steps.{AreBackedUp, EndsCalls, HasStarted, IsStepError, IsSwept};
+ghost use Rattle.job_threads.specs.Steps.{MayEndWith};
 ghost use Rattle.job_threads.specs.Steps.{known, progress_of, sent};
 ghost use Rattle.job_threads.specs.Turns.{has_ended, idle_after, is_still, nap_micros, quiet_after};
 ghost use Rattle.job_threads.specs.Turns.{IsPastHelp, none_may_rise, quiet_swept};
@@ -12,6 +13,7 @@ use crate::aim::{Aim, Silence, Target};
 use crate::asking::Asked;
 use crate::beats::Watch;
 use crate::common::{Common, Over};
+use crate::dead::Dead;
 use crate::gate::{Gate, NAPS_FROM, Turn};
 use crate::holdings::{Holding, Holdings};
 use crate::lanes::LaneEnd;
@@ -33,6 +35,7 @@ use std::time::{Duration, Instant};
 pub(crate) struct Caller<'a, L: Ledger + OfJob + Aim> {
     pub(crate) hand: Hand<L>,
     pub(crate) watch: Watch<'a, L>,
+    pub(crate) dead: Dead<L>,
     pub(crate) lanes: Vec<LaneEnd<'a, L>>,
     pub(crate) texts: Texts<L>,
     pub(crate) holdings: Holdings,

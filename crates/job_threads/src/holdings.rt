@@ -1,24 +1,42 @@
-ghost use Rattle.std.specs.Prelude.{◌≡◌, ◌<◌, ◌≤◌, IfOk, Some, length, min, slice_get};
-ghost use Rattle.job_threads.specs.Holdings.{AreReturning, back_with, buried, changed_at, has_risen};
-ghost use Rattle.job_threads.specs.Holdings.{held_too, holders_of, holding_too, may_return, opened, stopped};
+ghost use Rattle.std.specs.Prelude.{◌≡◌, ◌≤◌, IfOk, Some, length, replicate, slice_get};
+ghost use Rattle.job_threads.specs.Holdings.{AreReturning, back_with, buried, changed_at, empty_handed};
+ghost use Rattle.job_threads.specs.Holdings.{has_risen, held_too, holders_of, holding_too, may_return};
+ghost use Rattle.job_threads.specs.Holdings.{opened, stopped, with_all};
 ghost use Rattle.job_threads.specs.Steps.{changed_if};
 
 use master_core::Cluster;
 use master_state::Answer;
-use node_ids::{SplitNo, SplitSet, WorkerNo};
+use node_ids::{SplitNo, SplitSet, SplitTable, WorkerNo};
 use std::alloc::{AllocError, Global};
+use std::mem;
 
-// What the calling thread knows of a worker.
-#[derive(Clone, Copy)]
+// What the calling thread knows of a worker. Its tables are made once, so that no change takes memory.
+#[derive(Drop)]
 pub(crate) struct Holding {
     // the splits that it holds; none where it is dead
-    pub(crate) held: SplitSet,
+    pub(crate) held: SplitTable,
     // those that it held when it died
-    pub(crate) lost: SplitSet,
+    pub(crate) lost: SplitTable,
     // what was seen of its beats then
     pub(crate) seen: u64,
     pub(crate) is_dead: bool,
     pub(crate) is_stopped: bool,
+}
+
+impl Holding {
+    // A worker that holds nothing, of so many splits.
+    fn new(alloc: Global, splits: usize) -> Result<Holding, AllocError>
+        requires { splits ≤ 131072 }
+        ensures { IfOk result (λ h. h ≡ empty_handed splits) }
+    {
+        Ok(Holding {
+            held: SplitTable::new(alloc, splits)?,
+            lost: SplitTable::new(alloc, splits)?,
+            seen: 0,
+            is_dead: false,
+            is_stopped: false,
+        })
+    }
 }
 
 // What it knows of all workers. It alone changes holders.
@@ -26,25 +44,18 @@ pub(crate) struct Holding {
 pub(crate) struct Holdings {
     pub(crate) workers: Vec<Holding>,
     pub(crate) splits: usize,
-    ghost few: { splits ≤ 1024 },
+    ghost few: { splits ≤ 131072 },
 }
 
 impl Holdings {
     // The first holders of a cluster.
     pub(crate) fn of(alloc: Global, cluster: &Cluster) -> Result<Holdings, AllocError>
         ensures workers { IfOk result (λ h. h.workers.items ≡ opened cluster.now) }
-        ensures splits { IfOk result (λ h. h.splits ≡ min (length cluster.now.splits) 1024) }
+        ensures splits { IfOk result (λ h. h.splits ≡ length cluster.now.splits) }
     {
-        let none = Holding {
-            held: SplitSet::new(),
-            lost: SplitSet::new(),
-            seen: 0,
-            is_dead: false,
-            is_stopped: false,
-        };
-        let splits = cluster.splits().len().min(1024);
+        let splits = cluster.splits().len();
         let mut holdings = Holdings {
-            workers: vec![in alloc; none; cluster.slots().len()]?,
+            workers: all_empty_handed(alloc, cluster.slots().len(), splits)?,
             splits,
         };
         for split in 0..splits {
@@ -56,7 +67,6 @@ impl Holdings {
 
     // The workers hold the split.
     fn add_all(&mut self, split: SplitNo, workers: &[WorkerNo])
-        requires { split < 1024 }
         ensures value { self.new.workers.items
             ≡ held_too split (length workers.now) workers.now self.old.workers.items }
         ensures splits { self.new.splits ≡ self.old.splits }
@@ -68,7 +78,6 @@ impl Holdings {
 
     // The worker holds the split too.
     pub(crate) fn add(&mut self, split: SplitNo, worker: WorkerNo)
-        requires { split < 1024 }
         ensures value { self.new.workers.items
             ≡ changed_at (holding_too split) self.old.workers.items worker }
         ensures splits { self.new.splits ≡ self.old.splits }
@@ -80,7 +89,6 @@ impl Holdings {
 
     // The same where the call was accepted.
     pub(crate) fn add_if(&mut self, answer: Answer, split: SplitNo, worker: WorkerNo)
-        requires { split < 1024 }
         ensures value { self.new.workers.items
             ≡ changed_if answer (holding_too split) self.old.workers.items worker }
         ensures splits { self.new.splits ≡ self.old.splits }
@@ -96,8 +104,8 @@ impl Holdings {
         ensures splits { self.new.splits ≡ self.old.splits }
     {
         if let Some(holding) = self.workers.get_mut(worker.index()) {
-            holding.lost = holding.held;
-            holding.held = SplitSet::new();
+            mem::swap(&mut holding.held, &mut holding.lost);
+            holding.held.clear();
             holding.seen = seen;
             holding.is_dead = true;
         }
@@ -123,27 +131,27 @@ impl Holdings {
         holding.is_dead && !holding.is_stopped && holding.seen < seen
     }
 
-    // With which splits a dead worker joins again: those that it held, unless they have eight holders.
-    pub(crate) fn returning(&self, worker: WorkerNo) -> SplitSet
-        ensures { AreReturning self.now.workers.items self.now.splits
-            (slice_get self.now.workers.items worker) result }
+    // The splits with which a dead worker joins again: the splits that it held, but for splits with eight
+    // holders or more.
+    pub(crate) fn returning(&self, alloc: Global, worker: WorkerNo) -> Result<SplitSet, AllocError>
+        ensures { IfOk result (AreReturning self.now.workers.items self.now.splits
+            (slice_get self.now.workers.items worker)) }
     {
-        let mut set = SplitSet::new();
+        let mut set = SplitSet::new(alloc);
         let Some(holding) = self.workers.get(worker.index()) else {
-            return set;
+            return Ok(set);
         };
         for split in 0..self.splits {
             let split = SplitNo::new(split as u32);
             if self.may_return(holding, split) {
-                set.put(split);
+                set.put(split)?;
             }
         }
-        set
+        Ok(set)
     }
 
     // Whether a worker joins again with the split.
     fn may_return(&self, holding: &Holding, split: SplitNo) -> bool
-        requires { split < 1024 }
         ensures { result ≡ may_return self.now.workers.items (Some holding.now) split }
     {
         holding.lost.has(split) && self.holders(split) < 8
@@ -151,7 +159,6 @@ impl Holdings {
 
     // How many workers hold the split.
     fn holders(&self, split: SplitNo) -> usize
-        requires { split < 1024 }
         ensures { result ≡ holders_of split self.now.workers.items }
     {
         let mut count = 0;
@@ -164,24 +171,52 @@ impl Holdings {
     }
 
     // The worker is back with these splits.
-    pub(crate) fn take_back(&mut self, worker: WorkerNo, set: SplitSet)
-        ensures value { self.new.workers.items ≡ changed_at (back_with set) self.old.workers.items worker }
+    pub(crate) fn take_back(&mut self, worker: WorkerNo, set: &SplitSet)
+        ensures value { self.new.workers.items
+            ≡ changed_at (back_with set.now) self.old.workers.items worker }
         ensures splits { self.new.splits ≡ self.old.splits }
     {
         if let Some(holding) = self.workers.get_mut(worker.index()) {
-            holding.held = set;
+            let held = &mut holding.held;
+            held.clear();
+            put_all(held, set.members());
             holding.is_dead = false;
         }
     }
 
     // The same where the call was accepted.
-    pub(crate) fn take_back_if(&mut self, answer: Answer, worker: WorkerNo, set: SplitSet)
+    pub(crate) fn take_back_if(&mut self, answer: Answer, worker: WorkerNo, set: &SplitSet)
         ensures value { self.new.workers.items
-            ≡ changed_if answer (back_with set) self.old.workers.items worker }
+            ≡ changed_if answer (back_with set.now) self.old.workers.items worker }
         ensures splits { self.new.splits ≡ self.old.splits }
     {
         if let Answer::Accepted(_, ()) = answer {
             self.take_back(worker, set);
         }
+    }
+}
+
+// So many workers that hold nothing, of so many splits.
+fn all_empty_handed(
+    alloc: Global,
+    workers: usize,
+    splits: usize,
+) -> Result<Vec<Holding>, AllocError>
+    requires { splits ≤ 131072 }
+    ensures { IfOk result (λ all. all.items ≡ replicate workers (empty_handed splits)) }
+{
+    let mut all = Vec::with_capacity(alloc, workers)?;
+    for _worker in 0..workers {
+        all.push_reserved(Holding::new(alloc, splits)?);
+    }
+    Ok(all)
+}
+
+// Puts all these splits in.
+fn put_all(table: &mut SplitTable, splits: &[SplitNo])
+    ensures { table.new ≡ with_all table.old splits.now }
+{
+    for split in splits {
+        table.put(*split);
     }
 }

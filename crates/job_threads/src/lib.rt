@@ -13,6 +13,7 @@ mod beats;
 mod caller;
 mod closing;
 mod common;
+mod dead;
 mod ending;
 pub mod gate;
 mod holdings;

@@ -14,6 +14,7 @@ use crate::beats::{Pulse, Watch};
 use crate::caller::Caller;
 use crate::closing::{Closing, close};
 use crate::common::Common;
+use crate::dead::Dead;
 use crate::ending::{outcome_of, record_of, settled};
 use crate::gate::Gate;
 use crate::holdings::Holdings;
@@ -37,9 +38,9 @@ use std::sync::Wait;
 use std::sync::ledger::{Blank, Ledger};
 use std::thread::Threads;
 
-// What a worker's hand has room for.
+// What a worker's hand has room for at first.
 const WORKER_ROOM: Limits = Limits {
-    events: 4096,
+    events: 64,
     attempts: 0,
     sweeps: 0,
 };
@@ -51,7 +52,7 @@ pub fn run<G: Gate, R: Threads + Wait + Clock + Sync>(
     job: Job,
     gate: &G,
 ) -> Result<Outcome, RunError>
-    requires workers { length job.cluster.slots ≤ 32 }
+    requires workers { length job.cluster.slots ≤ 1024 }
     requires limits { AreAllowed job.limits }
     ensures outcome { IfOk result (IsOutcomeOf (setup_of job)) }
     ensures limit { result ≡ Err RunError.GateLimit → G.may_end ≡ true }
@@ -68,7 +69,7 @@ pub fn run_recorded<G: Gate, O: Observer, R: Threads + Wait + Clock + Sync>(
     gate: &G,
     observer: &O,
 ) -> Result<Record, RunError>
-    requires workers { length job.cluster.slots ≤ 32 }
+    requires workers { length job.cluster.slots ≤ 1024 }
     requires limits { AreAllowed job.limits }
     ensures record { IfOk result (IsRecordOf (setup_of job)) }
     ensures limit { result ≡ Err RunError.GateLimit → G.may_end ≡ true }
@@ -91,7 +92,7 @@ struct Paths {
 
 // For workers with so many slots.
 fn new_paths(alloc: Global, slots: &[u8]) -> Result<Paths, RunError>
-    requires { length slots.now ≤ 32 }
+    requires { length slots.now ≤ 1024 }
     ensures board { IfOk result (λ paths. paths.board.workers ≡ length slots.now) }
     ensures lanes { IfOk result (λ paths. length paths.ways.items ≡ length slots.now) }
     ensures places { IfOk result (λ paths.
@@ -133,7 +134,7 @@ fn run_on<
     requires paths { (paths.board ≡ L.board) × (paths.ways.items ≡ L.lanes) }
     requires sizes { (paths.board.workers ≡ length job.cluster.slots)
         × (length paths.ways.items ≡ length job.cluster.slots) }
-    requires workers { length job.cluster.slots ≤ 32 }
+    requires workers { length job.cluster.slots ≤ 1024 }
     requires limits { AreAllowed job.limits }
     ensures record { IfOk result (IsRecordOf L.setup) }
     ensures limit { result ≡ Err RunError.GateLimit → G.may_end ≡ true }
@@ -150,7 +151,7 @@ fn run_on<
         passes,
     } = paths;
     let parts = cluster.parts();
-    let Ok(watch) = Watch::new(&board, maker, cluster.slots().len()) else {
+    let Ok(watch) = Watch::new(alloc, &board, maker, cluster.slots().len()) else {
         return Err(RunError::Memory);
     };
     let aims = aims_of::<L>(alloc, &cluster, usize::from(target), limits)?;
@@ -176,7 +177,7 @@ struct Lines<'a, L: OfJob + Aim> {
     ghost ways_of: { ways.now ≡ L.lanes },
     ghost passes_of: { passes.items ≡ map first_pass L.lanes },
     ghost count: { length L.lanes ≡ length L.setup.cluster.slots },
-    ghost few: { length L.lanes ≤ 32 },
+    ghost few: { length L.lanes ≤ 1024 },
 }
 
 // What the calling thread is to know before there is a master.
@@ -187,6 +188,7 @@ struct Aims<L: OfJob + Aim> {
     target: Target<L>,
     silence: Silence<L>,
     room: Limits,
+    dead: Dead<L>,
 }
 
 fn aims_of<L: OfJob + Aim>(
@@ -207,12 +209,16 @@ fn aims_of<L: OfJob + Aim>(
     let Ok(holdings) = Holdings::of(alloc, cluster) else {
         return Err(RunError::Memory);
     };
+    let Ok(dead) = Dead::new(alloc, cluster.slots().len()) else {
+        return Err(RunError::Memory);
+    };
     Ok(Aims {
         texts,
         holdings,
         target: Target::new(target),
         silence: Silence::new(cluster.silence()),
         room,
+        dead,
     })
 }
 
@@ -246,6 +252,7 @@ fn run_shared<
         target,
         silence,
         room,
+        dead,
     } = aims;
     let Lines {
         watch,
@@ -256,6 +263,7 @@ fn run_shared<
     let mut caller = Caller {
         hand,
         watch,
+        dead,
         lanes: Vec::new(alloc),
         texts,
         holdings,
@@ -373,7 +381,7 @@ fn make_workers<'a, L: Ledger + OfJob + Aim, R: Wait>(
 ) -> Result<Vec<Worker<'a, L>>, RunError>
     requires ways { ways.now ≡ L.lanes }
     requires passes { passes.items ≡ map first_pass L.lanes }
-    requires few { length L.lanes ≤ 32 }
+    requires few { length L.lanes ≤ 1024 }
     ensures numbers { IfOk result (λ all. map (λ worker. worker.number) all.items ≡ upto (length L.lanes)) }
     ensures seats { IfOk result
         (λ all. map (λ worker. worker.pulse.worker) all.items ≡ upto (length L.lanes)) }

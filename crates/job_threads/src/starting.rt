@@ -1,11 +1,13 @@
-ghost use Rattle.std.specs.Prelude.{◌≡◌, ◌+◌, ◌^◌, ◌<◌, ◌≤◌, All, IfErr, IfOk, IsTrue, length, max, min, nat_lt};
+ghost use Rattle.std.specs.Prelude.{◌≡◌, ◌+◌, ◌^◌, ◌<◌, ◌≤◌, All, IfErr, IfOk, IsTrue, length, max};
+ghost use Rattle.std.specs.Prelude.{nat_lt};
 ghost use Rattle.std.specs.Prelude.{false, if◌then◌else◌};
 ghost use Rattle.lane_queue.specs.Orders.{attempt_of};
 ghost use Rattle.job_threads.specs.Chains.{EachBelow};
 ghost use Rattle.job_threads.specs.Steps.{AreStartsSent, IsAnswered, IsBackedUp, IsBackedUpToo, IsMapSent};
-ghost use Rattle.job_threads.specs.Steps.{IsMapStartSent, IsReduceStarted, IsSent, IsStepError, IsWaveStarted};
+ghost use Rattle.job_threads.specs.Steps.{IsMapStartSent, IsReduceStarted, IsSent, IsStepError};
+ghost use Rattle.job_threads.specs.Steps.{IsWaveStarted};
 ghost use Rattle.job_threads.specs.Steps.{Starts, sent};
-ghost use Rattle.shared_master.specs.Waves.{IsMapStart};
+ghost use Rattle.shared_master.specs.Waves.{IsMapStart, WavesAs};
 
 use crate::aim::Aim;
 use crate::caller::Caller;
@@ -15,7 +17,7 @@ use crate::outcome::RunError;
 use lane_queue::Order;
 use master_state::{Answer, Start, Why, Work};
 use node_ids::{AttemptNo, SplitNo, WorkerNo};
-use shared_master::{OfJob, SharedGlance, SharedWave, WaveError};
+use shared_master::{Hand, OfJob, SharedGlance, SharedWave, WaveError};
 use std::alloc::Global;
 use std::sync::ledger::Ledger;
 use std::sync::{Arc, Wait};
@@ -67,7 +69,7 @@ impl<'a, L: Ledger + OfJob + Aim> Caller<'a, L> {
         ensures idle { self.new.idle ≡ self.old.idle }
         ensures err { IfErr result IsStepError }
     {
-        match common.shared.plan_wave(rt, alloc, &mut self.hand) {
+        match plan(rt, alloc, common, &mut self.hand, self.waves == 0) {
             Ok(wave) => {
                 self.waves = self.waves.saturating_add(1);
                 self.send_wave(rt, common, &wave)
@@ -203,22 +205,21 @@ impl<'a, L: Ledger + OfJob + Aim> Caller<'a, L> {
         }
     }
 
-    // A second attempt for each split, where one may start: whether an order is in a lane. At most 32,768
-    // calls, once in 65,536 idle turns under the plain gate.
+    // A second attempt for each split of which one may start: whether an order is in a lane. It looks at the
+    // master once for each split, once in 65,536 idle turns under the plain gate.
     pub(crate) fn back_up<G: Gate, R: Wait>(
         &mut self,
         rt: &R,
         common: &Common<'_, L, G>,
     ) -> Result<bool, RunError>
-        ensures backup { IfOk result (λ started.
-            EachBelow (IsBackedUpToo L.setup.cluster.texts (min (length L.setup.cluster.slots) 256))
-            (min (length L.setup.cluster.splits) 1024) (sent self.old.lanes.items self.old.hand, false)
+        ensures backup { IfOk result (λ started. EachBelow (IsBackedUpToo L.setup)
+            (length L.setup.cluster.splits) (sent self.old.lanes.items self.old.hand, false)
             (sent self.new.lanes.items self.new.hand, started)) }
         ensures idle { self.new.idle ≡ self.old.idle }
         ensures err { IfErr result IsStepError }
     {
         let mut started = false;
-        let splits = common.shared.sizes().splits.min(1024);
+        let splits = common.shared.sizes().splits;
         for split in 0..splits {
             started |= self.back_up_split(rt, common, SplitNo::new(split as u32))?;
         }
@@ -233,21 +234,20 @@ impl<'a, L: Ledger + OfJob + Aim> Caller<'a, L> {
         split: SplitNo,
     ) -> Result<bool, RunError>
         requires { split < length L.setup.cluster.splits }
-        ensures backup { IfOk result (λ started. IsBackedUp L.setup.cluster.texts
-            (min (length L.setup.cluster.slots) 256) split
+        ensures backup { IfOk result (λ started. IsBackedUp L.setup split
             (sent self.old.lanes.items self.old.hand) started
             (sent self.new.lanes.items self.new.hand)) }
         ensures idle { self.new.idle ≡ self.old.idle }
         ensures err { IfErr result IsStepError }
     {
-        let workers = common.shared.sizes().workers.min(256);
-        for worker in 0..workers {
-            let worker = WorkerNo::new(worker as u16);
-            if let Some(attempt) = self.ask_backup(rt, common, split, worker)? {
-                return self.send_map(rt, common, attempt, split, worker);
-            }
-        }
-        Ok(false)
+        let _ = common.shared.sizes();
+        let Some(worker) = common.shared.backup_worker(rt, split) else {
+            return Ok(false);
+        };
+        let Some(attempt) = self.ask_backup(rt, common, split, worker)? else {
+            return Ok(false);
+        };
+        self.send_map(rt, common, attempt, split, worker)
     }
 
     // Asks for a second attempt of a split on a worker.
@@ -273,5 +273,23 @@ impl<'a, L: Ledger + OfJob + Aim> Caller<'a, L> {
                 Ok(None)
             }
         }
+    }
+}
+
+// Plans and commits a wave. The first one places all splits, so it is planned while the lock is free. Each
+// later one goes on from the engine that the master keeps, which takes less time than a copy of the problem.
+fn plan<L: Ledger + OfJob + Aim, G: Gate, R: Wait>(
+    rt: &R,
+    alloc: Global,
+    common: &Common<'_, L, G>,
+    hand: &mut Hand<L>,
+    is_first: bool,
+) -> Result<SharedWave, WaveError>
+    ensures { WavesAs L.setup hand.old result hand.new }
+{
+    if is_first {
+        common.shared.plan_wave(rt, alloc, hand)
+    } else {
+        common.shared.start_best(rt, alloc, hand)
     }
 }

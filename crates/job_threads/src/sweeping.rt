@@ -1,11 +1,11 @@
-ghost use Rattle.std.specs.Prelude.{◌≡◌, ◌+◌, ◌-◌, ◌^◌, ◌<◌, ◌≤◌, false, IfErr, IfOk, IsTrue, OnOk, length};
-ghost use Rattle.std.specs.Prelude.{min, slice_get, slice_index, if◌then◌else◌};
-ghost use Rattle.node_ids.specs.Sets.{has_number};
+ghost use Rattle.std.specs.Prelude.{◌≡◌, ◌<◌, ◌≤◌, false, IfErr, IfOk, IsTrue, OnOk, length};
+ghost use Rattle.std.specs.Prelude.{slice_get, slice_index};
 ghost use Rattle.shared_master.specs.Steps.{AreDeadOf, IsKeptSweep};
 ghost use Rattle.job_threads.specs.Chains.{EachBelow, OnlyIf};
 ghost use Rattle.job_threads.specs.Holdings.{AreReturning, all_buried, buried, changed_at, deaths_after};
 ghost use Rattle.job_threads.specs.Holdings.{has_risen};
-ghost use Rattle.job_threads.specs.Steps.{AreCopied, Follows, IsAdded, IsBack, IsBackIf, IsCopied, IsStepError};
+ghost use Rattle.job_threads.specs.Steps.{AreCopied, Follows, IsAdded, IsBack, IsBackIf, IsCopied};
+ghost use Rattle.job_threads.specs.Steps.{IsStepError};
 ghost use Rattle.job_threads.specs.Steps.{IsSwept, known};
 ghost use Rattle.job_threads.specs.Watching.{AreLooks};
 
@@ -15,10 +15,10 @@ use crate::common::{Common, judge};
 use crate::gate::Gate;
 use crate::outcome::RunError;
 use block_map::CopyOrder;
-use master_state::Swept;
-use node_ids::{SplitNo, SplitSet, WorkerNo, WorkerSet};
+use master_state::Answer;
+use node_ids::{SplitNo, SplitRow, SplitSet, WorkerNo};
 use shared_master::OfJob;
-use std::alloc::Global;
+use std::alloc::{AllocError, Global};
 use std::sync::Wait;
 use std::sync::ledger::Ledger;
 
@@ -30,7 +30,7 @@ impl<'a, L: Ledger + OfJob + Aim> Caller<'a, L> {
         alloc: Global,
         common: &Common<'_, L, G>,
     ) -> Result<bool, RunError>
-        ensures looks { OnOk result (AreLooks self.old.watch self.new.watch.told self.new.watch) }
+        ensures looks { OnOk result (AreLooks self.old.watch self.new.watch) }
         ensures swept { IfOk result (λ rose. IsSwept L.setup L.target self.old.holdings.splits
             self.new.watch.told (known self.old.holdings.workers.items self.old.hand) rose
             (known self.new.holdings.workers.items self.new.hand)) }
@@ -38,82 +38,69 @@ impl<'a, L: Ledger + OfJob + Aim> Caller<'a, L> {
         ensures idle { self.new.idle ≡ self.old.idle }
         ensures err { IfErr result IsStepError }
     {
-        let swept = self.hand_in(rt, common);
-        judge(swept.answer, &self.hand)?;
-        self.follow(rt, alloc, common, &swept.dead)
+        let answer = self.hand_in(rt, common);
+        judge(answer, &self.hand)?;
+        self.follow(rt, alloc, common)
     }
 
-    // Buries these, has copies made where one died, and lets those join that rose: whether one did.
+    // Buries the dead, has copies made where one died, and lets those join that rose: whether one did.
     fn follow<G: Gate, R: Wait>(
         &mut self,
         rt: &R,
         alloc: Global,
         common: &Common<'_, L, G>,
-        dead: &WorkerSet,
     ) -> Result<bool, RunError>
         ensures follows { IfOk result (λ rose. Follows L.setup L.target self.old.holdings.splits
-            self.old.watch.told dead.now (known self.old.holdings.workers.items self.old.hand) rose
+            self.old.watch.told self.old.dead (known self.old.holdings.workers.items self.old.hand) rose
             (known self.new.holdings.workers.items self.new.hand)) }
         ensures watch { self.new.watch ≡ self.old.watch }
         ensures quiet { self.new.quiet ≡ self.old.quiet }
         ensures idle { self.new.idle ≡ self.old.idle }
         ensures err { IfErr result IsStepError }
     {
-        self.bury_all(dead);
-        self.copy_if(rt, alloc, common, !dead.is_empty())?;
-        self.join_all(rt, common)
+        self.bury_all();
+        let died = !self.dead.workers().is_empty();
+        self.copy_if(rt, alloc, common, died)?;
+        self.join_all(rt, alloc, common)
     }
 
-    // What the master answers to what is seen of all beats.
-    fn hand_in<G: Gate, R: Wait>(&mut self, rt: &R, common: &Common<'_, L, G>) -> Swept
-        ensures looks { AreLooks self.old.watch self.new.watch.told self.new.watch }
-        ensures kept { IsKeptSweep self.old.hand self.new.watch.told result.answer self.new.hand }
-        ensures dead { AreDeadOf L.setup self.new.watch.told result }
-        ensures same { self.new ≡ record self.old { hand = self.new.hand; watch = self.new.watch } }
+    // What the master answers to what is seen of all beats. Then the list has who died.
+    fn hand_in<G: Gate, R: Wait>(&mut self, rt: &R, common: &Common<'_, L, G>) -> Answer
+        ensures looks { AreLooks self.old.watch self.new.watch }
+        ensures kept { IsKeptSweep self.old.hand self.new.watch.told result self.new.hand }
+        ensures dead { AreDeadOf L.setup self.new.watch.told result self.new.dead }
+        ensures same { self.new
+            ≡ record self.old { hand = self.new.hand; watch = self.new.watch; dead = self.new.dead } }
     {
-        let counts = self.watch.counts();
-        common.shared.sweep(rt, &mut self.hand, &counts)
+        self.watch.look();
+        self.dead
+            .sweep(rt, common.shared, &mut self.hand, self.watch.told())
     }
 
     // Notes who died.
-    fn bury_all(&mut self, dead: &WorkerSet)
-        ensures workers { self.new.holdings.workers.items
-            ≡ all_buried dead.now self.old.watch.told 256 self.old.holdings.workers.items }
-        ensures deaths { self.new.deaths ≡ deaths_after dead.now 256 self.old.deaths }
+    fn bury_all(&mut self)
+        ensures workers { self.new.holdings.workers.items ≡ all_buried self.old.dead self.old.watch.told
+            (length self.old.dead) self.old.holdings.workers.items }
+        ensures deaths { self.new.deaths ≡ deaths_after self.old.deaths (length self.old.dead) }
         ensures splits { self.new.holdings.splits ≡ self.old.holdings.splits }
         ensures same { self.new
             ≡ record self.old { holdings = self.new.holdings; deaths = self.new.deaths } }
     {
-        for worker in 0..256usize {
-            self.bury_if(dead, WorkerNo::new(worker as u16));
-        }
-    }
-
-    // Notes that a worker died, if it is in the set.
-    fn bury_if(&mut self, dead: &WorkerSet, worker: WorkerNo)
-        requires { worker < 256 }
-        ensures workers { self.new.holdings.workers.items ≡ (if has_number dead.now worker
-            then changed_at (buried (slice_index self.old.watch.told worker))
-            self.old.holdings.workers.items worker
-            else self.old.holdings.workers.items) }
-        ensures deaths { self.new.deaths ≡ (if has_number dead.now worker
-            then min (self.old.deaths + 1) (2 ^ 32 - 1) else self.old.deaths) }
-        ensures splits { self.new.holdings.splits ≡ self.old.holdings.splits }
-        ensures same { self.new
-            ≡ record self.old { holdings = self.new.holdings; deaths = self.new.deaths } }
-    {
-        if dead.has(worker) {
-            self.deaths = self.deaths.saturating_add(1);
+        let count = self.dead.workers().len();
+        for i in 0..count {
+            let worker = self.dead.workers()[i];
             self.bury(worker);
         }
+        let most = u32::MAX as usize;
+        self.deaths = self.deaths.saturating_add(count.min(most) as u32);
     }
 
     // Notes that a worker died, when so many of its beats were handed in. What was started on it is lost, and
     // it passes over these orders if it was dead by mistake: else its lane would fill.
     fn bury(&mut self, worker: WorkerNo)
-        requires { worker < 256 }
         ensures value { self.new.holdings.workers.items
-            ≡ changed_at (buried (slice_index self.old.watch.told worker)) self.old.holdings.workers.items worker }
+            ≡ changed_at (buried (slice_index self.old.watch.told worker))
+            self.old.holdings.workers.items worker }
         ensures same { self.new ≡ record self.old { holdings = self.new.holdings } }
         ensures splits { self.new.holdings.splits ≡ self.old.holdings.splits }
     {
@@ -202,7 +189,7 @@ impl<'a, L: Ledger + OfJob + Aim> Caller<'a, L> {
         ensures err { IfErr result IsStepError }
     {
         let sizes = common.shared.sizes();
-        if split.index() >= sizes.splits.min(1024) || worker.index() >= sizes.workers {
+        if split.index() >= sizes.splits || worker.index() >= sizes.workers {
             return Err(RunError::Torn(0));
         }
         let answer = common.shared.add(rt, &mut self.hand, split, worker);
@@ -214,10 +201,11 @@ impl<'a, L: Ledger + OfJob + Aim> Caller<'a, L> {
     fn join_all<G: Gate, R: Wait>(
         &mut self,
         rt: &R,
+        alloc: Global,
         common: &Common<'_, L, G>,
     ) -> Result<bool, RunError>
         ensures joined { IfOk result (λ rose.
-            EachBelow (IsBackIf self.old.watch.told self.old.holdings.splits) 256
+            EachBelow (IsBackIf self.old.watch.told self.old.holdings.splits) (length self.old.watch.told)
             (known self.old.holdings.workers.items self.old.hand, false)
             (known self.new.holdings.workers.items self.new.hand, rose)) }
         ensures splits { self.new.holdings.splits ≡ self.old.holdings.splits }
@@ -225,8 +213,8 @@ impl<'a, L: Ledger + OfJob + Aim> Caller<'a, L> {
         ensures err { IfErr result IsStepError }
     {
         let mut rose = false;
-        for worker in 0..256usize {
-            rose |= self.join_if(rt, common, WorkerNo::new(worker as u16))?;
+        for worker in 0..self.watch.told().len() {
+            rose |= self.join_if(rt, alloc, common, WorkerNo::new(worker as u16))?;
         }
         Ok(rose)
     }
@@ -235,10 +223,10 @@ impl<'a, L: Ledger + OfJob + Aim> Caller<'a, L> {
     fn join_if<G: Gate, R: Wait>(
         &mut self,
         rt: &R,
+        alloc: Global,
         common: &Common<'_, L, G>,
         worker: WorkerNo,
     ) -> Result<bool, RunError>
-        requires { worker < 256 }
         ensures joined { IfOk result (λ rose. OnlyIf rose (IsBack self.old.holdings.splits worker)
             (known self.old.holdings.workers.items self.old.hand)
             (known self.new.holdings.workers.items self.new.hand)) }
@@ -251,13 +239,12 @@ impl<'a, L: Ledger + OfJob + Aim> Caller<'a, L> {
         if !self.has_risen(worker) {
             return Ok(false);
         }
-        self.join(rt, common, worker)?;
+        self.join(rt, alloc, common, worker)?;
         Ok(true)
     }
 
     // Whether the worker is dead and was not stopped, and more of its beats were handed in than when it died.
     fn has_risen(&self, worker: WorkerNo) -> bool
-        requires { worker < 256 }
         ensures { result ≡ has_risen (slice_index self.now.watch.told worker)
             (slice_get self.now.holdings.workers.items worker) }
     {
@@ -268,6 +255,7 @@ impl<'a, L: Ledger + OfJob + Aim> Caller<'a, L> {
     fn join<G: Gate, R: Wait>(
         &mut self,
         rt: &R,
+        alloc: Global,
         common: &Common<'_, L, G>,
         worker: WorkerNo,
     ) -> Result<(), RunError>
@@ -280,20 +268,23 @@ impl<'a, L: Ledger + OfJob + Aim> Caller<'a, L> {
         ensures splits { self.new.holdings.splits ≡ self.old.holdings.splits }
         ensures err { IfErr result IsStepError }
     {
-        let set = self.holdings.returning(worker);
-        self.join_with(rt, common, worker, set)
+        let Ok(set) = self.holdings.returning(alloc, worker) else {
+            return Err(RunError::Memory);
+        };
+        self.join_with(rt, alloc, common, worker, &set)
     }
 
     // The worker is back with these splits, where the master takes it.
     fn join_with<G: Gate, R: Wait>(
         &mut self,
         rt: &R,
+        alloc: Global,
         common: &Common<'_, L, G>,
         worker: WorkerNo,
-        set: SplitSet,
+        set: &SplitSet,
     ) -> Result<(), RunError>
         requires { AreReturning self.old.holdings.workers.items self.old.holdings.splits
-            (slice_get self.old.holdings.workers.items worker) set }
+            (slice_get self.old.holdings.workers.items worker) set.now }
         ensures back { OnOk result (IsBack self.old.holdings.splits worker
             (known self.old.holdings.workers.items self.old.hand)
             (known self.new.holdings.workers.items self.new.hand)) }
@@ -305,8 +296,19 @@ impl<'a, L: Ledger + OfJob + Aim> Caller<'a, L> {
         if worker.index() >= sizes.workers || !set.are_below(sizes.splits) {
             return Err(RunError::Torn(0));
         }
-        let answer = common.shared.join(rt, &mut self.hand, worker, &set);
+        let Ok((told, kept)) = both_of(alloc, set) else {
+            return Err(RunError::Memory);
+        };
+        let answer = common.shared.join(rt, &mut self.hand, worker, told, kept);
         self.holdings.take_back_if(answer, worker, set);
         judge(answer, &self.hand)
     }
+}
+
+// Two sets of the same splits: one for the history, and one for the hand.
+fn both_of(alloc: Global, set: &SplitSet) -> Result<(SplitSet, SplitSet), AllocError>
+    ensures { IfOk result (λ both. (both.0 ≡ set.now) × (both.1 ≡ set.now)) }
+{
+    let splits = SplitRow::of(set);
+    Ok((splits.to_set(alloc)?, splits.to_set(alloc)?))
 }

@@ -1,12 +1,12 @@
-ghost use Rattle.std.specs.Prelude.{◌≡◌, ◌≢◌, ◌<◌, ◌≤◌, [], length, Err, Some, IfErr, IfSome, None, true};
+ghost use Rattle.std.specs.Prelude.{◌≡◌, ◌≢◌, ◌<◌, ◌≤◌, [], length, Err, Some, IfErr, IfSome, None, OnErr, OnOk, true};
 ghost use Rattle.std.specs.Arc.{arc_value};
 ghost use Rattle.beat_board.specs.Values.{SeatValue};
 ghost use Rattle.std.specs.Option.{is_some};
 ghost use Rattle.master_state.specs.declared.events.Event.{Event};
 ghost use Rattle.shuffle_reduce.specs.Gather.{texts_of_runs};
-ghost use Rattle.hand_ledger.specs.Hands.{new_hand};
+ghost use Rattle.hand_ledger.specs.Hands.{new_hand, with_place};
 ghost use Rattle.job_threads.specs.Steps.{MayEndWith};
-ghost use Rattle.job_threads.specs.Telling.{HasWorked, IsAnswered, IsMapTold, IsPartTold, Performs, Tells};
+ghost use Rattle.job_threads.specs.Telling.{Does, HasWorked, IsAnswered, IsMapTold, IsPartTold, Performs, Tells};
 ghost use Rattle.job_threads.specs.Telling.{worker_room};
 ghost use Rattle.job_threads.specs.declared.gate.Go.{Go};
 ghost use Rattle.job_threads.specs.declared.outcome.RunError.{RunError};
@@ -34,8 +34,11 @@ use word_map::{MapResult, Run, SplitText, map_split_paced};
 // After so many takes without an order a worker sleeps at each further one.
 const EAGER_TAKES: u32 = 16;
 
-// For how long.
+// For how long, among few workers.
 const NAP_MICROS: u64 = 50;
+
+// Among so many workers a nap is twice as long, and so on, since the end of each takes a processor's time.
+const CROWD: usize = 64;
 
 // What the thread of a worker is given.
 #[derive(Drop)]
@@ -124,7 +127,7 @@ fn take_one<L: Ledger + OfJob + Aim, G: Gate, R: Wait + Clock>(
     ensures err { IfErr result (MayEndWith (G.may_end ≡ true)) }
 {
     let Some(order) = orders.take(rt, going) else {
-        return Ok(wait(rt, empty));
+        return Ok(wait(rt, empty, common.shared.sizes().workers));
     };
     if !orders.is_lost(&order) {
         perform(rt, alloc, common, beating, hand, &order)?;
@@ -132,17 +135,18 @@ fn take_one<L: Ledger + OfJob + Aim, G: Gate, R: Wait + Clock>(
     Ok(0)
 }
 
-// Leaves the processor to others: how many takes had no order by now.
-fn wait<R: Clock>(rt: &R, empty: u32) -> u32 {
+// Leaves the processor to others, among so many workers: how many takes had no order by now.
+fn wait<R: Clock>(rt: &R, empty: u32, workers: usize) -> u32 {
     if empty < EAGER_TAKES {
         thread::yield_now();
         return empty + 1;
     }
-    thread::sleep(rt, Duration::from_micros(NAP_MICROS));
+    let crowds = 1 + workers / CROWD;
+    thread::sleep(rt, Duration::from_micros(NAP_MICROS * crowds as u64));
     empty
 }
 
-// Does an order.
+// Does an order, once its hand has room for a call more.
 fn perform<L: Ledger + OfJob + Aim, G: Gate, R: Wait>(
     rt: &R,
     alloc: Global,
@@ -152,6 +156,34 @@ fn perform<L: Ledger + OfJob + Aim, G: Gate, R: Wait>(
     order: &Order,
 ) -> Result<(), RunError>
     ensures performs { Performs L.setup order.now hand.old hand.new }
+    ensures err { IfErr result (MayEndWith (G.may_end ≡ true)) }
+{
+    make_room(hand)?;
+    do_order(rt, alloc, common, beating, hand, order)
+}
+
+// Gives a hand room for a call more.
+fn make_room<L: Ledger>(hand: &mut Hand<L>) -> Result<(), RunError>
+    ensures ok { OnOk result (hand.new ≡ with_place hand.old) }
+    ensures same { OnErr result (hand.new ≡ hand.old) }
+    ensures err { IfErr result (λ e. e ≡ RunError.Memory) }
+{
+    match hand.make_room() {
+        Ok(()) => Ok(()),
+        Err(_) => Err(RunError::Memory),
+    }
+}
+
+// Does an order.
+fn do_order<L: Ledger + OfJob + Aim, G: Gate, R: Wait>(
+    rt: &R,
+    alloc: Global,
+    common: &Common<'_, L, G>,
+    beating: &Beating<'_, '_, L>,
+    hand: &mut Hand<L>,
+    order: &Order,
+) -> Result<(), RunError>
+    ensures does { Does L.setup order.now hand.old hand.new }
     ensures err { IfErr result (MayEndWith (G.may_end ≡ true)) }
 {
     match order {

@@ -200,7 +200,7 @@ module _ (k : Known) (word : Keyword) (ws vs : List Word) (v : Word)
     limit_less : IsWithinLimit k long → IsWithinLimit k short
     limit_less within = record {
       room = within.room;
-      few = few_less (most_more_of word) _ _ tail_less within.few;
+      few = few_less (most_more_of k.version word) _ _ tail_less within.few;
     }
 
     meets_less : (f : Fault) → Meets k long f → Meets k short f

@@ -14,7 +14,7 @@ use Rattle.line_shapes.specs.Places.{more_of, places_of}
 use Rattle.line_shapes.specs.declared.keyword.Keyword.{Keyword}
 use Rattle.line_shapes.specs.declared.keyword.Keyword.TheVariants as keyword
 use Rattle.line_shapes.specs.declared.place.Place.TheVariants.{Text}
-use Rattle.line_rules.specs.Entering.{follow_of}
+use Rattle.line_rules.specs.Entering.{follow_of, most_holders}
 use Rattle.line_rules.specs.Faults.{AreAsMany, IsComplete, IsDeclaredIn}
 use Rattle.line_rules.specs.Faults.{IsLeastOf, IsWithinLimit, Keep}
 use Rattle.line_rules.specs.Faults.{follows}
@@ -73,16 +73,18 @@ too_many k s wanted are more whole =
 -- ---- the two keywords whose names may be any number
 
 -- a split with more holders than it may have
-long_split : (k : Known) (ws vs : List Word) (v : Word) → 10 ≤ length ws → Contains vs v
+long_split : (k : Known) (ws vs : List Word) (v : Word) → 2 + most_holders k.version ≤ length ws
+    → Contains vs v
     → IsWorst k.version k.rows (more_of keyword.Split) vs v → StandsFor k keyword.Split (ws ++ v ∷ []) (ws ++ vs)
 long_split k ws vs v past one worst =
     let first : get_or (ws ++ v ∷ []) 0 [] ≡ get_or (ws ++ vs) 0 [] =
     get_or_append_left ws (v ∷ []) [] 0 (omega (arith, past))
     ∙ sym (get_or_append_left ws vs [] 0 (omega (arith, past))) in
-    let full : 8 < length (tail_words (said keyword.Split (ws ++ v ∷ []))) =
-    tail_longer keyword.Split ws (v ∷ []) 8 past (omega arith) in
+    let most = most_holders k.version in
+    let full : most < length (tail_words (said keyword.Split (ws ++ v ∷ []))) =
+    tail_longer keyword.Split ws (v ∷ []) most past (omega arith) in
     let over : IsWithinLimit k (said keyword.Split (ws ++ v ∷ [])) → ⊥ =
-    λ within. (let few : length (tail_words (said keyword.Split (ws ++ v ∷ []))) ≤ 8 = within.few in
+    λ within. (let few : length (tail_words (said keyword.Split (ws ++ v ∷ []))) ≤ most = within.few in
     omega (arith, full, few)) in
     crowd_stands k keyword.Split ws vs v (omega (arith, past)) one worst _ refl (λ xs. tt)
     (λ i. (keyword.Split, first i, [])) (λ within. absurd (over within))

@@ -1,6 +1,7 @@
 -- Names that are told apart by the numbers of the splits that they name.
-use Rattle.std.proofs.Common.{ℕ, List, [], ◌∷◌, ◌≡◌, ◌≢◌, ◌<◌, Bool, Bor, true, false, Some, arith, drop}
-use Rattle.std.proofs.Common.{get_or, length, suc, zero}
+use Rattle.std.proofs.Common.{ℕ, List, [], ◌∷◌, ◌≡◌, ◌≢◌, ◌<◌, ◌-◌, ◌∙◌, Bool, Bor, true, false, Some, arith}
+use Rattle.std.proofs.Common.{drop, get_or, length, length-drop, refl, replicate, suc, sym, take}
+use Rattle.std.proofs.Common.{take_all, true≢false, zero}
 use Rattle.std.specs.Prelude.{slice_index_or}
 use Rattle.std.specs.List.{AllPairs}
 use Rattle.text_lines.specs.Texts.{Word}
@@ -9,10 +10,10 @@ use Rattle.line_shapes.specs.Places.{place_at}
 use Rattle.line_shapes.specs.declared.keyword.Keyword.TheVariants.{Join, Split}
 use Rattle.line_shapes.specs.declared.place.Kind.TheVariants as kind
 use Rattle.line_shapes.specs.declared.place.Place.TheVariants.{Used}
-use Rattle.line_shapes.proofs.Mapped.{AllPairs-map}
+use Rattle.line_shapes.proofs.Mapped.{AllPairs-map, AllPairs-unmap}
 use Rattle.line_rules.specs.Entered.{AreFit, IsFitIn}
 use Rattle.line_rules.specs.Known.{HasRow}
-use Rattle.line_rules.specs.Rows.{Firsts, first_by}
+use Rattle.line_rules.specs.Rows.{Firsts, NameTwice, first_by}
 use Rattle.line_rules.specs.declared.edition.Version.{Version}
 use Rattle.line_rules.proofs.Kept.{of_words}
 
@@ -23,7 +24,37 @@ pub record IsSeen (firsts : Firsts) (seen : List Bool) (name : Word) : Type 0 wh
   pub is : first_by firsts name ≡ Some (Split, number)
   pub marked : slice_index_or seen number false ≡ true
 
+-- one of the names before this place is that of this split
+pub record WasNamed (firsts : Firsts) (names : List (Bor (List ℕ))) (i number : ℕ) : Type 0 where
+  pub place : ℕ
+  pub before : place < i
+  pub is : (d : Bor (List ℕ)) → first_by firsts (slice_index_or names place d).now ≡ Some (Split, number)
+
+pub unmarked : (n m : ℕ) → slice_index_or (replicate n false) m false ≡ false
+unmarked zero m = refl
+unmarked (suc n) zero = refl
+unmarked (suc n) (suc m) = unmarked n m
+
+pub none_named : (firsts : Firsts) (names : List (Bor (List ℕ))) (marks : List Bool)
+    → ((m : ℕ) → slice_index_or marks m false ≡ false)
+    → (m : ℕ) → slice_index_or marks m false ≡ true → WasNamed firsts names 0 m
+none_named firsts names marks none m marked = absurd (true≢false (sym marked ∙ none m))
+
+-- names of one split are one name, where no two names have one number
+pub not_apart : (firsts : Firsts) (names : List (Bor (List ℕ)))
+    → ((a b : Word) (n : ℕ) → first_by firsts a ≡ Some (Split, n) → first_by firsts b ≡ Some (Split, n)
+    → a ≡ b)
+    → NameTwice firsts names → AllPairs (λ a b. a.now ≢ b.now) names → ⊥
+not_apart firsts [] one twice apart = absurd (omega (arith, twice.inside))
+not_apart firsts (name ∷ names) one twice apart =
+    apart twice.first twice.second name twice.before twice.inside
+    (one _ _ twice.number (twice.one name) (twice.other name))
+
 -- ---- a join: a worker, and splits
+
+-- the words behind the worker, as a slice has them
+pub behind : (words : List (Bor (List ℕ))) → take (length words - 1) (drop 1 words) ≡ drop 1 words
+behind words = grind (arith, take_all, length-drop)
 
 abbrev pub AreSplits : List Statement → List (Bor (List ℕ)) → Type 0
 AreSplits rows ws = (k : ℕ) (d : Bor (List ℕ)) → k < length ws
@@ -49,3 +80,9 @@ pub joined_apart : (words : List (Bor (List ℕ))) → AllPairs (λ a b. a.now �
 joined_apart [] apart i j d lt inside = absurd (omega (arith, inside))
 joined_apart (w ∷ ws) apart i j d lt inside =
     AllPairs-map (λ (a b : List ℕ). a ≢ b) (λ w. w.now) ws apart i j d lt inside
+
+pub joined_differ : (words : List (Bor (List ℕ))) → HasTailApart (stated Join words)
+    → AllPairs (λ a b. a.now ≢ b.now) (drop 1 words)
+joined_differ [] apart i j d lt inside = absurd (omega (arith, inside))
+joined_differ (w ∷ ws) apart i j d lt inside =
+    AllPairs-unmap (λ (a b : List ℕ). a ≢ b) (λ w. w.now) ws apart i j d lt inside

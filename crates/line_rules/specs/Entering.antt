@@ -12,7 +12,7 @@ use Rattle.line_rules.specs.declared.entering.Follow.TheVariants.{Any, Centre, C
 use Rattle.line_rules.specs.declared.purpose.Purpose.{Purpose}
 use Rattle.line_rules.specs.declared.edition.Version.{Version}
 use Rattle.line_rules.specs.declared.edition.Version.TheVariants.{One, Two, Three}
-use Rattle.line_rules.specs.declared.purpose.Purpose.TheVariants.{Checking, Planning, Running}
+use Rattle.line_rules.specs.declared.purpose.Purpose.TheVariants.{Running}
 
 -- by what a line is entered
 abbrev pub entering_of : Keyword → Entering
@@ -48,46 +48,56 @@ entering_of keyword.Copies = InTurn
 entering_of keyword.Backup = InTurn
 entering_of keyword.End = Nothing
 
--- the greater of two limits holds in version 3, of a text that is read to plan, or to check a plan
-abbrev pub planned_limit : Version → ℕ → ℕ → ℕ
-planned_limit One less more = less
-planned_limit Two less more = less
-planned_limit Three less more = more
+-- the greater of two limits holds in version 3
+abbrev pub newer_limit : Version → ℕ → ℕ → ℕ
+newer_limit One less more = less
+newer_limit Two less more = less
+newer_limit Three less more = more
 
-abbrev pub limit_in : Version → Purpose → ℕ → ℕ → ℕ
-limit_in version Checking less more = planned_limit version less more
-limit_in version Planning less more = planned_limit version less more
-limit_in version purpose less more = less
-
+-- a job's cluster is smaller than another, since it runs on a thread for each worker
 abbrev pub most_workers : Version → Purpose → ℕ
-most_workers version Running = 32
-most_workers version purpose = limit_in version purpose 256 32768
+most_workers version Running = newer_limit version 32 1024
+most_workers version purpose = newer_limit version 256 32768
+
+abbrev pub most_splits : Version → ℕ
+most_splits version = newer_limit version 1024 131072
+
+-- how many documents a script or a job may have, and how many commands a script
+abbrev pub most_documents : Version → ℕ
+most_documents version = newer_limit version 65536 1048576
+
+abbrev pub most_commands : Version → ℕ
+most_commands version = newer_limit version 65536 1048576
 
 -- how many lines of a keyword there may be; of commands, how many in all
 abbrev pub most_of : Version → Purpose → Keyword → Option ℕ
-most_of version purpose keyword.Centre = Some (limit_in version purpose 8 256)
-most_of version purpose keyword.Rack = Some (limit_in version purpose 32 4096)
+most_of version purpose keyword.Centre = Some (newer_limit version 8 256)
+most_of version purpose keyword.Rack = Some (newer_limit version 32 4096)
 most_of version purpose keyword.Worker = Some (most_workers version purpose)
-most_of version purpose keyword.Split = Some (limit_in version purpose 1024 131072)
-most_of version purpose keyword.Doc = Some 65536
-most_of version purpose keyword.Wave = Some 65536
-most_of version purpose keyword.Done = Some 65536
-most_of version purpose keyword.Fail = Some 65536
-most_of version purpose keyword.Withdraw = Some 65536
-most_of version purpose keyword.Die = Some 65536
-most_of version purpose keyword.Join = Some 65536
-most_of version purpose keyword.Add = Some 65536
-most_of version purpose keyword.Lose = Some 65536
-most_of version purpose keyword.Sweep = Some 65536
-most_of version purpose keyword.Reduce = Some 65536
-most_of version purpose keyword.Copies = Some 65536
-most_of version purpose keyword.Backup = Some 65536
+most_of version purpose keyword.Split = Some (most_splits version)
+most_of version purpose keyword.Doc = Some (most_documents version)
+most_of version purpose keyword.Wave = Some (most_commands version)
+most_of version purpose keyword.Done = Some (most_commands version)
+most_of version purpose keyword.Fail = Some (most_commands version)
+most_of version purpose keyword.Withdraw = Some (most_commands version)
+most_of version purpose keyword.Die = Some (most_commands version)
+most_of version purpose keyword.Join = Some (most_commands version)
+most_of version purpose keyword.Add = Some (most_commands version)
+most_of version purpose keyword.Lose = Some (most_commands version)
+most_of version purpose keyword.Sweep = Some (most_commands version)
+most_of version purpose keyword.Reduce = Some (most_commands version)
+most_of version purpose keyword.Copies = Some (most_commands version)
+most_of version purpose keyword.Backup = Some (most_commands version)
 most_of version purpose k = None
 
+-- how many holders a split may have
+abbrev pub most_holders : Version → ℕ
+most_holders version = newer_limit version 8 16
+
 -- and how many words may follow those in the places of a line
-abbrev pub most_more_of : Keyword → Option ℕ
-most_more_of keyword.Split = Some 8
-most_more_of k = None
+abbrev pub most_more_of : Version → Keyword → Option ℕ
+most_more_of version keyword.Split = Some (most_holders version)
+most_more_of version k = None
 
 -- which words have to follow them
 abbrev pub follow_of : Keyword → Follow

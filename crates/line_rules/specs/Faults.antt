@@ -114,7 +114,7 @@ counted_of k word = counted_by (entering_of word) k word
 -- there may be one line more of its keyword, and no more words follow than may
 pub record IsWithinLimit (k : Known) (s : Statement) : Type 0 where
   pub room : IsFewer (most_of k.version k.purpose s.keyword) (counted_of k s.keyword)
-  pub few : IsFew (most_more_of s.keyword) (length (tail_words s))
+  pub few : IsFew (most_more_of k.version s.keyword) (length (tail_words s))
 
 -- the most bytes of a split: 64 MiB, and from version 3 on 8 GiB
 abbrev pub most_bytes : Version → ℕ

@@ -31,7 +31,7 @@ most_more Any None k = length (rows_of keyword.Split k.rows)
 
 -- how many words a line of this keyword may have
 abbrev pub most_words : Known → Keyword → ℕ
-most_words k word = length (places_of word) + most_more (follow_of word) (most_more_of word) k
+most_words k word = length (places_of word) + most_more (follow_of word) (most_more_of k.version word) k
 
 -- the word has the first so many of what is asked of it, in turn: the shape of its place, a name where one
 -- stands, and one that is declared

@@ -145,6 +145,22 @@ Others = List (TextKey × ℕ)
 abbrev pub first_by : Firsts → Word → Option (Keyword × ℕ)
 first_by firsts word = lookup (λ k. bytes_eq word k.now) firsts
 
+-- each of the names stands there as that of a split
+abbrev pub NameSplits : Firsts → List (Bor (List ℕ)) → Type 0
+NameSplits firsts names = (k : ℕ) (d : Bor (List ℕ)) → k < length names
+    → (0 < length (slice_index_or names k d).now)
+    × ((n : ℕ) × (first_by firsts (slice_index_or names k d).now ≡ Some (Split, n)))
+
+-- two of the names belong to one split in the table
+pub record NameTwice (firsts : Firsts) (names : List (Bor (List ℕ))) : Type 0 where
+  pub first : ℕ
+  pub second : ℕ
+  pub number : ℕ
+  pub before : first < second
+  pub inside : second < length names
+  pub one : (d : Bor (List ℕ)) → first_by firsts (slice_index_or names first d).now ≡ Some (Split, number)
+  pub other : (d : Bor (List ℕ)) → first_by firsts (slice_index_or names second d).now ≡ Some (Split, number)
+
 abbrev pub same_key : Key → Key → Bool
 same_key p q = (sameb the_type p.0 q.0 && bytes_eq p.1 q.1) && bytes_eq p.2 q.2
 

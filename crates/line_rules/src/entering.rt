@@ -2,7 +2,10 @@ ghost use Rattle.std.specs.Prelude.{◌≡◌};
 ghost use Rattle.line_rules.specs.Entering.{entering_of as entering, follow_of as follow};
 ghost use Rattle.line_rules.specs.Entering.{is_priced as priced};
 ghost use Rattle.line_rules.specs.Entering.{most_more_of as most_words, most_of as most};
-ghost use Rattle.line_rules.specs.Entering.{limit_in as limit, most_workers as workers};
+ghost use Rattle.line_rules.specs.Entering.{most_splits as splits, most_workers as workers};
+ghost use Rattle.line_rules.specs.Entering.{most_holders as holders};
+ghost use Rattle.line_rules.specs.Entering.{most_commands as commands, most_documents as documents};
+ghost use Rattle.line_rules.specs.Entering.{newer_limit as newer};
 
 use crate::edition::Version;
 use crate::purpose::Purpose;
@@ -61,14 +64,18 @@ pub fn most_of(version: Version, purpose: Purpose, keyword: Keyword) -> Option<u
         Keyword::Dead | Keyword::Busy | Keyword::Parts | Keyword::Target => None,
         Keyword::Silence | Keyword::Plan | Keyword::Start | Keyword::Price => None,
         Keyword::Begin | Keyword::End => None,
-        Keyword::Centre => Some(limit_in(version, purpose, 8, 256)),
-        Keyword::Rack => Some(limit_in(version, purpose, 32, 4096)),
+        Keyword::Centre => Some(newer_limit(version, 8, 256)),
+        Keyword::Rack => Some(newer_limit(version, 32, 4096)),
         Keyword::Worker => Some(most_workers(version, purpose)),
-        Keyword::Split => Some(limit_in(version, purpose, 1024, 131_072)),
-        Keyword::Doc | Keyword::Wave | Keyword::Done | Keyword::Fail => Some(65_536),
-        Keyword::Withdraw | Keyword::Die | Keyword::Join | Keyword::Add => Some(65_536),
-        Keyword::Lose | Keyword::Sweep | Keyword::Reduce | Keyword::Copies => Some(65_536),
-        Keyword::Backup => Some(65_536),
+        Keyword::Split => Some(most_splits(version)),
+        Keyword::Doc => Some(most_documents(version)),
+        Keyword::Wave | Keyword::Done | Keyword::Fail | Keyword::Withdraw => {
+            Some(most_commands(version))
+        }
+        Keyword::Die | Keyword::Join | Keyword::Add | Keyword::Lose => Some(most_commands(version)),
+        Keyword::Sweep | Keyword::Reduce | Keyword::Copies | Keyword::Backup => {
+            Some(most_commands(version))
+        }
     }
 }
 
@@ -77,26 +84,43 @@ fn most_workers(version: Version, purpose: Purpose) -> usize
 {
     match purpose {
         Purpose::Checking | Purpose::Planning | Purpose::Playing => {
-            limit_in(version, purpose, 256, 32_768)
+            newer_limit(version, 256, 32_768)
         }
-        Purpose::Running => 32,
+        Purpose::Running => newer_limit(version, 32, 1024),
     }
 }
 
-// The greater of two limits, `more`, holds in version 3, of a text that is read to plan, or to check a plan.
-fn limit_in(version: Version, purpose: Purpose, less: usize, more: usize) -> usize
-    ensures { result ≡ limit version purpose less more }
+fn most_splits(version: Version) -> usize
+    ensures { result ≡ splits version }
 {
-    match (purpose, version) {
-        (Purpose::Checking | Purpose::Planning, Version::Three) => more,
-        (Purpose::Checking | Purpose::Planning, Version::One | Version::Two) => less,
-        (Purpose::Playing | Purpose::Running, _) => less,
+    newer_limit(version, 1024, 131_072)
+}
+
+fn most_documents(version: Version) -> usize
+    ensures { result ≡ documents version }
+{
+    newer_limit(version, 65_536, 1_048_576)
+}
+
+fn most_commands(version: Version) -> usize
+    ensures { result ≡ commands version }
+{
+    newer_limit(version, 65_536, 1_048_576)
+}
+
+// The greater of two limits, `more`, holds in version 3.
+fn newer_limit(version: Version, less: usize, more: usize) -> usize
+    ensures { result ≡ newer version less more }
+{
+    match version {
+        Version::One | Version::Two => less,
+        Version::Three => more,
     }
 }
 
 /// How many words may follow those in the places of a line, where there is a limit.
-pub fn most_more_of(keyword: Keyword) -> Option<usize>
-    ensures { result ≡ most_words keyword }
+pub fn most_more_of(version: Version, keyword: Keyword) -> Option<usize>
+    ensures { result ≡ most_words version keyword }
 {
     match keyword {
         Keyword::Problem | Keyword::Script | Keyword::Job | Keyword::Centre => None,
@@ -106,8 +130,15 @@ pub fn most_more_of(keyword: Keyword) -> Option<usize>
         Keyword::Done | Keyword::Fail | Keyword::Withdraw | Keyword::Die | Keyword::Join => None,
         Keyword::Add | Keyword::Lose | Keyword::Sweep | Keyword::Reduce | Keyword::Copies => None,
         Keyword::Backup | Keyword::End => None,
-        Keyword::Split => Some(8),
+        Keyword::Split => Some(most_holders(version)),
     }
+}
+
+// How many holders a split may have.
+fn most_holders(version: Version) -> usize
+    ensures { result ≡ holders version }
+{
+    newer_limit(version, 8, 16)
 }
 
 /// Which words have to follow those in the places of a line.

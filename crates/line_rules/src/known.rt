@@ -24,7 +24,7 @@ use crate::command_list::CommandList;
 use crate::edition::{Version, is_of_version, name_demand, version_after};
 use crate::entering::{Entering, Follow, entering_of, follow_of, most_of};
 use crate::purpose::Purpose;
-use crate::rows::Rows;
+use crate::rows::{FEW_NAMES, Rows};
 use crate::rule::Rule;
 use crate::rules::{
     are_priced, is_command, is_entered_by_new_name, is_few, is_first_of_body, is_first_of_head,
@@ -192,7 +192,7 @@ impl<'t> KnownLines<'t> {
     fn is_within_limit(&self, line: &KeyedLine<'_, '_>) -> bool
         ensures { IsTrue result ↔ IsWithinLimit self.now (statement_of line.now) }
     {
-        self.has_room(line) && is_few(line)
+        self.has_room(line) && is_few(self.version, line)
     }
 
     fn has_room(&self, line: &KeyedLine<'_, '_>) -> bool
@@ -259,7 +259,7 @@ impl<'t> KnownLines<'t> {
             Some(Fault::OutOfRange)
         } else if !self.is_within_limit(line) {
             Some(Fault::PassesLimit)
-        } else if !is_apart(apart, line) {
+        } else if !is_apart(apart, &self.rows, line) {
             Some(Fault::RepeatedHolder)
         } else if !self.is_once(after, line) {
             Some(Fault::SecondEntry)
@@ -328,13 +328,24 @@ fn keeps(fit: bool, rule: Rule, rows: &Rows<'_>, line: &KeyedLine<'_, '_>) -> bo
     fit || keep(rule, rows, line)
 }
 
-// Whether no name stands twice where it may not.
-fn is_apart(apart: bool, line: &KeyedLine<'_, '_>) -> bool
+// Whether no name stands twice where it may not. Of many splits it is found by their numbers: each two names
+// would take long to compare.
+fn is_apart(apart: bool, rows: &Rows<'_>, line: &KeyedLine<'_, '_>) -> bool
     requires places { length (places_of line.now.keyword) ≤ length line.now.words.now }
     requires apart { IsTrue apart → HasTailApart (statement_of line.now) }
     ensures { IsTrue result ↔ HasTailApart (statement_of line.now) }
 {
-    apart || line.has_tail_apart()
+    apart || (!has_split_twice(rows, line) && line.has_tail_apart())
+}
+
+// Whether a join of many splits is known to name one of them twice.
+fn has_split_twice(rows: &Rows<'_>, line: &KeyedLine<'_, '_>) -> bool
+    ensures { IsTrue result → HasTailApart (statement_of line.now) → ⊥ }
+{
+    match line.keyword {
+        Keyword::Join if line.words.len() > FEW_NAMES => rows.is_split_twice(&line.words[1..]),
+        _ => false,
+    }
 }
 
 // How many centres a rack names in a text of the version.

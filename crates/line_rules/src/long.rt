@@ -1,11 +1,13 @@
-ghost use Rattle.std.specs.Prelude.{◌≡◌, ◌↔◌, ◌≤◌, ◌<◌, ◌⊎◌, ℕ, Contains, IsTrue, List, OnOk, length, map, set};
+ghost use Rattle.std.specs.Prelude.{◌≡◌, ◌↔◌, ◌≤◌, ◌<◌, ◌⊎◌, ℕ, Contains, IsTrue, List, OnOk, length, map};
+ghost use Rattle.std.specs.Prelude.{set};
 ghost use Rattle.std.specs.Prelude.{slice_index_or};
 ghost use Rattle.std.specs.Borrow.{Bor};
 ghost use Rattle.text_lines.specs.Texts.{words_of};
 ghost use Rattle.line_shapes.specs.Lines.{words_after};
 ghost use Rattle.line_rules.specs.Entering.{follow_of as follows, most_more_of as most_words_of};
 ghost use Rattle.line_rules.specs.Faults.{IsDeclaredIn};
-ghost use Rattle.line_rules.specs.Long.{HasFirst, HaveFirst, IsUsed, IsWorst, StandsFor, most_more as most_after};
+ghost use Rattle.line_rules.specs.Long.{HasFirst, HaveFirst, IsUsed, IsWorst, StandsFor};
+ghost use Rattle.line_rules.specs.Long.{most_more as most_after};
 ghost use Rattle.line_rules.specs.Long.{most_words as most};
 
 use crate::edition::{Version, name_demand};
@@ -56,12 +58,12 @@ fn most_words(known: &KnownLines<'_>, keyword: Keyword) -> usize
 }
 
 fn most_more(known: &KnownLines<'_>, keyword: Keyword) -> usize
-    ensures { result ≡ most_after (follows keyword) (most_words_of keyword) known.now }
+    ensures { result ≡ most_after (follows keyword) (most_words_of known.now.version keyword) known.now }
 {
     match follow_of(keyword) {
         Follow::Centre => centres_in(known.version()),
         Follow::Counts => known.rows().count(Keyword::Worker),
-        Follow::Any => match most_more_of(keyword) {
+        Follow::Any => match most_more_of(known.version(), keyword) {
             Some(most) => most,
             None => known.rows().count(Keyword::Split),
         },

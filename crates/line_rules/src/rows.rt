@@ -6,7 +6,7 @@ ghost use Rattle.std.specs.List.{AllPairs};
 ghost use Rattle.std.specs.Borrow.{Bor};
 ghost use Rattle.line_rules.specs.Rows.{AreNumbered, AreNumbers, ArePlaced, AreTabled, HasKeyMore};
 ghost use Rattle.line_rules.specs.Rows.{HaveWords, IsBarOf, IsBarred, IsKeyAt, IsNewKey, IsRowAt, IsTabled};
-ghost use Rattle.line_rules.specs.Rows.{Others};
+ghost use Rattle.line_rules.specs.Rows.{NameSplits, NameTwice, Others};
 ghost use Rattle.line_rules.specs.Rows.{bar_by, bar_said, first_by, name_in, other_by, rows_in};
 ghost use Rattle.line_rules.specs.Said.{row_said};
 ghost use Rattle.line_shapes.specs.Lines.{Statement, statement_of};
@@ -28,8 +28,14 @@ use std::marker::Model;
 // How many keywords there are.
 const KEYWORDS: usize = 31;
 
-// The splits that have numbers below this one are told apart by their numbers.
+// Splits are told apart by their numbers, in a table of so many marks.
 const MARKS: usize = 1_024;
+
+// A table with a mark for each split that a text may have. It takes memory, which may be wanting.
+const MANY_MARKS: usize = 131_072;
+
+/// So many names are not worth the larger table.
+pub(crate) const FEW_NAMES: usize = 64;
 
 // The rows of a keyword have numbers below this one.
 const MOST_ROWS: usize = 4_294_967_296;
@@ -245,14 +251,26 @@ impl<'t> Rows<'t> {
     }
 
     /// Whether each of the names is that of a split, and no two are the same: it is found by the splits'
-    /// numbers, if these are below `MARKS`, and false is answered else.
+    /// numbers. False may be answered of few names of which one has a number from `MARKS` on, and of many
+    /// where memory is wanting.
     pub fn are_splits_apart(&self, names: &[&str]) -> bool
         ensures named { IsTrue result → (k : ℕ) (d : Bor (List ℕ)) → k < length names.now
             → (0 < length (slice_index_or names.now k d).now)
             × HasRow self.now Split (slice_index_or names.now k d).now }
         ensures apart { IsTrue result → AllPairs (λ a b. a.now ≢ b.now) names.now }
     {
-        have_numbers_apart(&self.firsts, names)
+        let is_great = names.len() > FEW_NAMES && self.count(Keyword::Split) > MARKS;
+        let alloc = *self.places.allocator();
+        have_numbers_apart(alloc, &self.firsts, names, is_great)
+    }
+
+    /// Whether one of these names stands twice: it is found by the numbers of the splits that they name.
+    /// False may be answered where one is that of no split, or memory is wanting.
+    pub fn is_split_twice(&self, names: &[&str]) -> bool
+        ensures { IsTrue result → AllPairs (λ a b. a.now ≢ b.now) names.now → ⊥ }
+    {
+        let alloc = *self.places.allocator();
+        is_number_twice(alloc, &self.firsts, names)
     }
 
     /// The keyword of a row, counted from 0, and the first word of its key.
@@ -454,25 +472,93 @@ fn put_numbers(
     Ok(())
 }
 
-// Whether each name stands in the table as that of a split, with a number that no name before it has.
-fn have_numbers_apart(firsts: &IndexMap<&str, (Keyword, u32)>, names: &[&str]) -> bool
-    ensures named { IsTrue result → (k : ℕ) (d : Bor (List ℕ)) → k < length names.now
-        → (0 < length (slice_index_or names.now k d).now)
-        × ((n : ℕ) × (first_by firsts.now.entries (slice_index_or names.now k d).now ≡ Some (Split, n))) }
+// Whether each name stands in the table as that of a split, with a number that no name before it has; all
+// numbers have their marks if `is_great`, and else those below `MARKS`.
+fn have_numbers_apart(
+    alloc: Global,
+    firsts: &IndexMap<&str, (Keyword, u32)>,
+    names: &[&str],
+    is_great: bool,
+) -> bool
+    ensures named { IsTrue result → NameSplits firsts.now.entries names.now }
     ensures apart { IsTrue result → AllPairs (λ a b. a.now ≢ b.now) names.now }
 {
-    let mut seen = [false; MARKS];
+    if is_great {
+        have_many_marks(alloc, firsts, names)
+    } else {
+        have_few_marks(firsts, names)
+    }
+}
+
+#[inline(never)]
+fn have_few_marks(firsts: &IndexMap<&str, (Keyword, u32)>, names: &[&str]) -> bool
+    ensures named { IsTrue result → NameSplits firsts.now.entries names.now }
+    ensures apart { IsTrue result → AllPairs (λ a b. a.now ≢ b.now) names.now }
+{
+    have_marks(firsts, names, &mut [false; MARKS])
+}
+
+fn have_many_marks(alloc: Global, firsts: &IndexMap<&str, (Keyword, u32)>, names: &[&str]) -> bool
+    ensures named { IsTrue result → NameSplits firsts.now.entries names.now }
+    ensures apart { IsTrue result → AllPairs (λ a b. a.now ≢ b.now) names.now }
+{
+    let Ok(mut marks) = vec![in alloc; false; MANY_MARKS] else {
+        return false;
+    };
+    have_marks(firsts, names, &mut marks)
+}
+
+// Whether each name is that of a split, with a number whose mark no name before it has put.
+fn have_marks(firsts: &IndexMap<&str, (Keyword, u32)>, names: &[&str], seen: &mut [bool]) -> bool
+    ensures named { IsTrue result → NameSplits firsts.now.entries names.now }
+    ensures apart { IsTrue result → AllPairs (λ a b. a.now ≢ b.now) names.now }
+{
     for i in 0..names.len() {
         let Some(number) = split_in(firsts, names[i]) else {
             return false;
         };
         let number = number as usize;
-        if number >= MARKS || seen[number] {
+        if number >= seen.len() || seen[number] {
             return false;
         }
         seen[number] = true;
     }
     true
+}
+
+// Whether two of the names belong to one split in the table.
+fn is_number_twice(alloc: Global, firsts: &IndexMap<&str, (Keyword, u32)>, names: &[&str]) -> bool
+    ensures { IsTrue result → NameTwice firsts.now.entries names.now }
+{
+    let Ok(mut marks) = vec![in alloc; false; MANY_MARKS] else {
+        return false;
+    };
+    is_marked_twice(firsts, names, &mut marks)
+}
+
+// The same by a table of marks, of which none is put yet.
+fn is_marked_twice(
+    firsts: &IndexMap<&str, (Keyword, u32)>,
+    names: &[&str],
+    marked: &mut [bool],
+) -> bool
+    requires { (m : ℕ) → slice_index_or marked.old m false ≡ false }
+    ensures { IsTrue result → NameTwice firsts.now.entries names.now }
+{
+    for i in 0..names.len() {
+        let Some(number) = split_in(firsts, names[i]) else {
+            return false;
+        };
+        let number = number as usize;
+        if number >= marked.len() {
+            return false;
+        }
+        if marked[number] {
+            return true;
+        }
+        marked[number] = true;
+    }
+    false
 }
 
 // The number of the split whose name stands in the table.

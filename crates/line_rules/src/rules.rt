@@ -13,6 +13,7 @@ ghost use Rattle.line_rules.specs.Known.{HasRow, IsDeclared, IsTaken, keys_of};
 ghost use Rattle.line_rules.specs.declared.entering.Entering.TheVariants.{InTurn};
 ghost use Rattle.line_rules.specs.declared.rule.Rule.TheVariants.{Declared, Free};
 
+use crate::edition::Version;
 use crate::entering::{Entering, entering_of, is_priced, most_more_of};
 use crate::rows::Rows;
 use crate::rule::Rule;
@@ -143,12 +144,12 @@ pub(crate) fn word_at<'t>(words: &[&'t str], place: usize) -> &'t str
     }
 }
 
-/// Whether no more words follow those in the places of the line than may.
-pub fn is_few(line: &KeyedLine<'_, '_>) -> bool
+/// Whether no more words follow those in the places of the line than may in a text of the version.
+pub fn is_few(version: Version, line: &KeyedLine<'_, '_>) -> bool
     ensures { IsTrue result
-        ↔ IsFew (most_words line.now.keyword) (length (tail_words (statement_of line.now))) }
+        ↔ IsFew (most_words version line.now.keyword) (length (tail_words (statement_of line.now))) }
 {
-    match most_more_of(line.keyword) {
+    match most_more_of(version, line.keyword) {
         Some(most) => line.words.len().saturating_sub(line.keyword.places().len()) <= most,
         None => true,
     }

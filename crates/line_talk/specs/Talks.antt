@@ -67,7 +67,7 @@ pub record Answers {T : Type 0} (Replies : T → List ℕ → List ℕ → T →
 
 -- what a talker hears of a line
 abbrev pub heard : List ℕ → List ℕ
-heard line = take 65536 line
+heard line = take 524288 line
 
 -- a talker's relation to lines that it hears, at one turn or at some
 abbrev pub AtTurn : {T : Type 0} → (T → List ℕ → Turn → List ℕ → T → Type 0) → Turn

@@ -2,7 +2,7 @@
 //!
 //! A `Talker` answers a line, and may change by it. `talk` reads lines from any reader and writes each
 //! answer, with an empty line behind it, to any writer. Its contract says once what was answered to what was
-//! read, however the talk ends (`specs/Talks.antt`). Of a longer line a talker hears the first 65,536 bytes,
+//! read, however the talk ends (`specs/Talks.antt`). Of a longer line a talker hears the first 524,288 bytes,
 //! so that the lines need bounded memory. Below stand the streams of `text_lines`.
 #![tactic(auto)]
 
@@ -18,7 +18,7 @@ use std::io::{BufRead, ErrorKind, Write};
 use text_lines::write_text;
 
 /// The most bytes of a line that a talker hears.
-pub const MAX_HEARD_BYTES: usize = 65_536;
+pub const MAX_HEARD_BYTES: usize = 524_288;
 
 /// Whether a talk goes on after an answer.
 #[derive(Clone, Copy, Debug, PartialEq, Eq)]

@@ -24,7 +24,7 @@ use Rattle.master_state.specs.declared.answers.Why.TheVariants.{HistoryFull}
 use Rattle.master_state.specs.declared.states.Start.{Start}
 use Rattle.report_lines.specs.Lines.{ignored_line}
 use Rattle.script_text.specs.Commands.{IsKnownIn, SaysCommand}
-use Rattle.script_text.specs.Heads.{FitMaster, MakesHead}
+use Rattle.script_text.specs.Heads.{FitMaster}
 use Rattle.script_text.specs.Ready.{AreFew, IsWholeCommand, told_names}
 use Rattle.script_text.specs.Scripts.{IsOfHead, IsOpening}
 use Rattle.script_text.specs.declared.script.Command.{Command}
@@ -34,7 +34,7 @@ use Rattle.script_text.specs.declared.script.ScriptText.{ScriptText}
 use Rattle.script_text.proofs.OneLine.{known_line, ready_line}
 use Rattle.script_text.proofs.Read.{fit_master-read}
 use Rattle.job_play.specs.Given.{HasRuns, HoldsRuns}
-use Rattle.job_play.specs.PlayAnswer.{cluster_in}
+use Rattle.job_play.specs.PlayAnswer.{cluster_in, declared_cluster}
 use Rattle.job_play.specs.Playing.{Ended, Performed}
 use Rattle.job_play.specs.Reports.{IsKnownCommand, LacksRoom, opening_job}
 use Rattle.job_play.specs.declared.player.PlayEnd.{PlayEnd}
@@ -159,9 +159,8 @@ is_opened text live read opening names target last draft is = record {
   names = names;
   target = target;
   job = is ∙ ap (λ (c : Cluster). opening_job (served_on c))
-      (same_cluster live.known.rows read.head
-      (subst (λ (rows : List Statement). MakesHead rows read.head) (rows_same text read live.known opening)
-      opening.head));
+      (same_cluster opening.ended read.head opening.head
+      ∙ ap (λ (k : Known). declared_cluster k) (sym opening.reopened));
   last = last;
   draft = draft;
 }
@@ -268,7 +267,7 @@ live_ignored old new before now lacks same last written head = record {
 -- ---- a request
 
 -- each word of a request is short
-pub request_short : (line : Line) → IsRequest line → length line < 65536
+pub request_short : (line : Line) → IsRequest line → length line < 524288
 request_short line (request.Workers, is) = omega (arith, ap length is)
 request_short line (request.Open, is) = omega (arith, ap length is)
 request_short line (request.Outputs, is) = omega (arith, ap length is)
@@ -276,7 +275,7 @@ request_short line (request.Audit, is) = omega (arith, ap length is)
 request_short line (request.Commit, is) = omega (arith, ap length is)
 request_short line (request.Drop, is) = omega (arith, ap length is)
 
-pub long_none : (line : Line) → 65536 ≤ length line → ¬ (IsRequest line)
+pub long_none : (line : Line) → 524288 ≤ length line → ¬ (IsRequest line)
 long_none line long is = omega (arith, request_short line is)
 
 -- the text of the last wave is one that a check certifies
@@ -307,7 +306,7 @@ module _ (live : Live) (line : Line) (s : Statement) (named : IsNamedBy live)
   whole_line other = subst (λ (names : Names). IsWholeCommand names s) (sym named.told)
       (ready_line live.known line s fit named.playing named.body other)
 
-  few_workers : length (rows_of Worker live.known.rows) ≤ 256
+  few_workers : length (rows_of Worker live.known.rows) ≤ 32768
   few_workers = omega (
     arith,
     ap (λ (n : Names). length n.workers) named.told,
@@ -354,7 +353,7 @@ module _ (old new : Session) (s : Statement) (before now : List ℕ) where
   }
 
 module _ (old new : Session) (line : Line) (before now : List ℕ) where
-  pub hears_obeyed : (s : Statement) (turn : Turn) → length line < 65536 → IsFitLine old.known line s
+  pub hears_obeyed : (s : Statement) (turn : Turn) → length line < 524288 → IsFitLine old.known line s
       → Obeys old s turn before now new → Hears old line turn before now new
   hears_obeyed s turn short fit obeys = record {
     out = obeys.out;

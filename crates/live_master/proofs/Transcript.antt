@@ -24,8 +24,8 @@ use Rattle.live_master.proofs.Heads.{short_front}
 use Rattle.live_master.proofs.Sessions.{request_short}
 
 -- a line that is not heard to the most is heard whole
-heard_short : (line : Line) → length (heard line) < 65536 → heard line ≡ line
-heard_short line short = short_front 65536 line short
+heard_short : (line : Line) → length (heard line) < 524288 → heard line ≡ line
+heard_short line short = short_front 524288 line short
 
 -- a line whose front is a request is heard whole
 whole_request : (line : Line) (asked : Request) → heard line ≡ word_of asked → line ≡ word_of asked

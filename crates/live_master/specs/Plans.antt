@@ -36,7 +36,7 @@ IsNoCommand k line = IsLeastOf (LineHas k line) Misplaced
 
 -- it is a line of a plan without a fault
 pub record IsPlanLine (k : Known) (line : Line) (s : Statement) : Type 0 where
-  pub short : length line < 65536
+  pub short : length line < 524288
   pub no_command : IsNoCommand k line
   pub fit : IsFitLine (planning k) line s
 

@@ -51,7 +51,7 @@ use Rattle.live_master.specs.declared.serving.Session.{Session}
 -- ---- the master that is served
 
 abbrev pub serving_room : Limits
-serving_room = record { events = 65536; attempts = 1000000; sweeps = 65536 }
+serving_room = record { events = 1048576; attempts = 1000000; sweeps = 65536 }
 
 abbrev pub served_on : Cluster → Setup
 served_on cluster = record { cluster = cluster; limits = serving_room }
@@ -76,7 +76,7 @@ pub record IsOpened (text : List ℕ) (live : Live) : Type 0 where
   pub opening : IsOpening text read live.known
   pub names : live.names ≡ read.script.names
   pub target : live.target ≡ read.script.target
-  pub job : live.job ≡ opening_job (served_on (declared_cluster live.known.rows))
+  pub job : live.job ≡ opening_job (served_on (declared_cluster live.known))
   pub last : live.last ≡ None
   pub draft : live.draft ≡ no_draft live.names
 
@@ -143,7 +143,7 @@ PerformsIn old c out new = ((c ≡ command.Wave) × StartsWave old out new)
 
 -- the line says a command, without a fault, and it is performed
 pub record Tells (old : Live) (line : Line) (out : List ℕ) (new : Live) : Type 0 where
-  pub short : length line < 65536
+  pub short : length line < 524288
   pub statement : Statement
   pub command : Command
   pub fit : IsFitLine old.known line statement
@@ -201,13 +201,13 @@ pub record Asks (old : Live) (line : Line) (out : List ℕ) (new : Live) : Type 
   pub told : AnswersRequest old.names old.job.state old.last request out
   pub unchanged : new ≡ old
 
--- The fault of a line, by what the head and the lines of a plan say: a line of 65,536 bytes or more is too
+-- The fault of a line, by what the head and the lines of a plan say: a line of 524,288 bytes or more is too
 -- long, of another one it is the least by the rules of texts. A line that may not stand among commands is read
 -- as a line of a plan.
 abbrev pub IsFaultOf : Live → Line → Fault → Type 0
-IsFaultOf old line fault = ((65536 ≤ length line) × (fault ≡ TooLong))
-    ⊎ (((length line < 65536) × (fault ≢ Misplaced) × IsLeastOf (LineHas old.known line) fault)
-    ⊎ ((length line < 65536) × IsLeastOf (LineHas old.known line) Misplaced
+IsFaultOf old line fault = ((524288 ≤ length line) × (fault ≡ TooLong))
+    ⊎ (((length line < 524288) × (fault ≢ Misplaced) × IsLeastOf (LineHas old.known line) fault)
+    ⊎ ((length line < 524288) × IsLeastOf (LineHas old.known line) Misplaced
     × IsPlanFault old.known old.names old.draft line fault))
 
 -- it is no request and has a fault, which is told, and nothing changes
@@ -285,7 +285,7 @@ pub record Obeys (old : Session) (statement : Statement) (turn : Turn) (before n
     : Type 0 where
   pub out : List ℕ
   pub written : now ≡ before ++ out
-  pub replies : (line : Line) → IsFitLine old.known line statement → length line < 65536
+  pub replies : (line : Line) → IsFitLine old.known line statement → length line < 524288
       → Replies (live_of old) line turn out (live_of new)
 
 -- what a line makes it write and do

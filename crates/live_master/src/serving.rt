@@ -55,7 +55,7 @@ use wave_text::wave_text;
 
 /// The room that a live master has.
 pub const SERVING_ROOM: Limits = Limits {
-    events: 65_536,
+    events: 1_048_576,
     attempts: 1_000_000,
     sweeps: 65_536,
 };
@@ -408,7 +408,7 @@ impl<'t> Session<'t> {
         answer: &mut String,
     ) -> Result<Turn, AllocError>
         requires ready { IsOpen self.old }
-        requires short { length line.now < 65536 }
+        requires short { length line.now < 524288 }
         requires no_request { ¬ (IsRequest line.now) }
         requires no_command { IsNoCommand self.old.known line.now }
         ensures ready { OnOk result (IsOpen self.new) }
@@ -500,7 +500,7 @@ impl<'t> Session<'t> {
         answer: &mut String,
     ) -> Result<Turn, AllocError>
         requires ready { IsOpen self.old }
-        requires short { length line.now < 65536 }
+        requires short { length line.now < 524288 }
         ensures ready { OnOk result (IsOpen self.new) }
         ensures ok { IfOk result (λ turn. Hears self.old line.now turn (string_bytes answer.old)
             (string_bytes answer.new) self.new) }
@@ -514,7 +514,7 @@ impl<'t> Session<'t> {
     // Answers a line that is not too long, and no request.
     fn take(&mut self, alloc: Global, line: &[u8], answer: &mut String) -> Result<Turn, AllocError>
         requires ready { IsOpen self.old }
-        requires short { length line.now < 65536 }
+        requires short { length line.now < 524288 }
         requires no_request { ¬ (IsRequest line.now) }
         ensures ready { OnOk result (IsOpen self.new) }
         ensures ok { IfOk result (λ turn. Hears self.old line.now turn (string_bytes answer.old)
@@ -537,7 +537,7 @@ impl<'t> Session<'t> {
         answer: &mut String,
     ) -> Result<Turn, AllocError>
         requires ready { IsOpen self.old }
-        requires short { length line.now < 65536 }
+        requires short { length line.now < 524288 }
         requires no_request { ¬ (IsRequest line.now) }
         requires least { IsLeastOf (LineHas self.old.known line.now) fault }
         ensures ready { OnOk result (IsOpen self.new) }

@@ -1,6 +1,6 @@
 -- The end of an attempt that a split or a part runs.
 use Rattle.std.proofs.Common.{◌≡◌, ℕ, suc, ◌<◌, List, [], ◌∷◌, inl, inr, true, false, None, Some, refl}
-use Rattle.std.proofs.Common.{ap, ◌∙◌, sym, subst, arith, All}
+use Rattle.std.proofs.Common.{ap, ◌∙◌, sym, subst, arith, length, All}
 use Rattle.std.specs.List.{list_any}
 use Rattle.std.specs.Prelude.{find}
 use Rattle.std.proofs.lemmas.Bool.{cases_Bool, eqb-true, false≢true}
@@ -19,7 +19,7 @@ use Rattle.master_state.specs.Jobs.{Job}
 use Rattle.master_state.proofs.Lists.{find-contains}
 use Rattle.master_state.proofs.Places.{split_inside, split_running_is, start_on, without_at, part_without_at}
 use Rattle.master_state.proofs.Places.{worker_in}
-use Rattle.master_state.proofs.Problems.{length-each}
+use Rattle.master_state.proofs.Reasons.{room_left}
 use Rattle.master_state.proofs.Running.{TakesSlot, split_takes_slots, part_takes_slot}
 use Rattle.master_tables.specs.Entries.{entry_without}
 use Rattle.master_tables.specs.Kept.{AreOfSplits}
@@ -130,24 +130,22 @@ module _ {m : Inside} {j : Job} {a k w : ℕ} (was : IsMaster m) (is : job_of m 
       takes (state_of m) a w (works.Part k) (part_attempts (part_at (state_of m) k)) here.start
       (was.kept.tidy.told_parts k) (part_takes_slot (setup_of m) (state_of m) k was.kept.tidy) here.runs
 
-  -- the split is one of at most 1,024, and the worker one of at most 256
-  pub few_found : RunsSplit j.state a k w → (k < 1024) × (w < 256)
-  few_found run =
-      let here = split_runs_in run in (
-        omega (
-          arith,
-          split_inside (state_of m) a k here.runs,
-          was.kept.tidy.splits,
-          was.kept.whole.few_splits,
-        ),
-        omega (
-          arith,
-          (split_slot run).known,
-          length-each (setup_of m) (state_of m) was.kept.whole was.kept.tidy,
-          was.kept.whole.racks,
-          was.kept.whole.few_workers,
-        ),
+  -- the split is one of those for which workers may be barred
+  pub split_known : RunsSplit j.state a k w → k < length m.workers.barred.rows
+  split_known run =
+      omega (
+        arith,
+        split_inside (state_of m) a k (split_runs_in run).runs,
+        was.kept.tidy.splits,
+        was.kept.tidy.bars,
       )
+
+-- where the history is not full, there is room for one bar more
+pub bar_fits : {m : Inside} {j : Job} → IsMaster m → job_of m ≡ j → is_full j.setup j.state ≡ false →
+    0 < m.workers.barred.room
+bar_fits {m = m} was is free =
+    let left = room_left (setup_of m) (state_of m) (ap (λ (i : Job). is_full i.setup i.state) is ∙ free) in
+    omega (arith, was.kept.bars, left)
 
 -- the end of an attempt drops no result
 pub made_ended : {m : Inside} (a split : ℕ) → IsMaster m →

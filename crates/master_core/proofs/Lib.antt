@@ -13,3 +13,4 @@ pub mod PartStarts
 pub mod Nearness
 pub mod Backing
 pub mod AllParts
+pub mod Touching

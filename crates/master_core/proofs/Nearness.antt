@@ -1,92 +1,68 @@
 -- What keeps an engine near.
 use Rattle.std.proofs.Common.{◌≡◌, ℕ, ◌≤◌, List, [], ◌∷◌, All, Bool, length, map, refl, sym, ap, ◌∙◌, subst}
 use Rattle.std.proofs.Common.{arith}
-use Rattle.std.specs.Prelude.{filter, fold, min, zip}
-use Rattle.std.specs.List.{range_with_len}
-use Rattle.std.proofs.lemmas.Bool.{false_from_ne_true}
+use Rattle.std.specs.Prelude.{fold, min, zip}
 use Rattle.std.proofs.lemmas.List.{length-map}
 use Rattle.std.proofs.lemmas.Slice.Zip.{length-zip}
-use Rattle.node_ids.specs.Sets.{has_number, Has}
 use Rattle.wave_problem.specs.declared.TheConstants.{MAX_SLOTS}
 use Rattle.wave_problem.specs.declared.lines.WorkerLine.{WorkerLine}
 use Rattle.wave_problem.specs.Wave.{Split, Wave, IsWithinLimits}
 use Rattle.rack_tree.specs.Tree.{Tree}
 use Rattle.tree_planner.specs.Going.{turned}
-use Rattle.worker_table.specs.Workers.{Workers, with_slot_given}
-use Rattle.master_state.specs.declared.states.Attempt.{Attempt}
+use Rattle.worker_table.specs.Bars.{Bars}
 use Rattle.master_state.specs.declared.states.SplitState.{SplitState}
 use Rattle.master_state.specs.States.{Cluster, State}
 use Rattle.master_state.specs.Tests.{is_pending}
 use Rattle.master_state.specs.Changes.{died, split_started}
 use Rattle.master_state.specs.Steps.{problem_of, split_line, worker_line}
 use Rattle.master_state.specs.Jobs.{Job}
-use Rattle.master_state.proofs.Lists.{filter_none}
+use Rattle.master_state.proofs.BarRoom.{bars_died, bars_started}
 use Rattle.master_state.proofs.Problems.{length-each, length-lines, within_limits}
 use Rattle.master_state.proofs.Sweeping.{heard_state}
 use Rattle.master_tables.specs.declared.entries.SplitEntry.{SplitEntry}
 use Rattle.master_tables.specs.Entries.{shown_as}
 use Rattle.master_tables.specs.Lines.{split_lines}
-use Rattle.master_tables.specs.Slots.{with_slots_given}
 use Rattle.master_core.specs.declared.kept.Kept.{Kept}
 use Rattle.master_core.specs.declared.master.Master.TheInside.{Inside}
 use Rattle.master_core.specs.Inside.{setup_of, state_of, job_of, IsMaster}
-use Rattle.master_core.specs.Near.{flags_of, HasPlaces, IsNear}
+use Rattle.master_core.specs.declared.touched.Touched.{Touched}
+use Rattle.master_core.specs.Near.{flags_of, HasPlaces, IsFlagged, IsNear}
 use Rattle.master_core.proofs.Accepting.{still_master}
 
 pub length-flags : (entries : List SplitEntry) → length (flags_of entries) ≡ length entries
 length-flags entries = length-map (map shown_as entries) is_pending ∙ length-map entries shown_as
 
--- slots that are given back, and starts, bar nothing
-pub bars_given : (t : Workers) (attempts : List Attempt) → (with_slots_given t attempts).barred ≡ t.barred
-bars_given t [] = refl
-bars_given t (attempt ∷ attempts) = bars_given (with_slot_given t attempt.worker) attempts
-
-all_started : (s : State) (pairs : List (ℕ × ℕ)) →
-    (fold (λ now pair. split_started now pair.0 pair.1) s pairs).workers.barred ≡ s.workers.barred
-all_started s [] = refl
-all_started s (pair ∷ pairs) = all_started (split_started s pair.0 pair.1) pairs
-
-pub bars_started : (s : State) {next : State} (pairs : List (ℕ × ℕ)) →
+-- starts bar nothing
+pub bars_same : (s : State) {next : State} (pairs : List (ℕ × ℕ)) →
     fold (λ now pair. split_started now pair.0 pair.1) s pairs ≡ next → next.workers.barred ≡ s.workers.barred
-bars_started s pairs is = sym (ap (λ (x : State). x.workers.barred) is) ∙ all_started s pairs
+bars_same s pairs is = sym (ap (λ (x : State). x.workers.barred) is) ∙ bars_started s pairs
 
 -- with the same barred pairs the engine is as near
-pub near_with_bars : (kept : Kept) (cluster : Cluster) (holders : List (List ℕ)) {old new : List ℕ} →
+pub near_with_bars : (kept : Kept) (cluster : Cluster) (holders : List (List ℕ)) {old new : Bars} →
     new ≡ old → IsNear kept cluster holders old → IsNear kept cluster holders new
 near_with_bars kept cluster holders same near =
-    subst (λ (bars : List ℕ). IsNear kept cluster holders bars) (sym same) near
-
--- deaths bar nothing
-bars_died : (s : State) (dead : List ℕ) → (fold died s dead).workers.barred ≡ s.workers.barred
-bars_died s [] = refl
-bars_died s (w ∷ dead) = bars_died (died s w) dead
+    subst (λ (bars : Bars). IsNear kept cluster holders bars) (sym same) near
 
 -- and where nobody dies, nothing changes
-none_died : (s : State) (dead : List ℕ) (count : ℕ) → ((w : ℕ) → Has dead w → ⊥) →
-    fold died s (filter (has_number dead) (range_with_len 0 count)) ≡ s
-none_died s dead count none =
-    ap (fold died s)
-    (filter_none (has_number dead) (range_with_len 0 count) (λ k d l. false_from_ne_true _ (none _)))
-
 pub near_swept : (s : State) (counts : List ℕ) (old new : Kept) (cluster : Cluster) (dead : List ℕ)
-    (count : ℕ) (next : State) →
-    ((cluster : Cluster) (before after : List (List ℕ)) (barred : List ℕ) → IsNear old cluster before barred →
-    (((w : ℕ) → Has dead w → ⊥) → after ≡ before) → IsNear new cluster after barred) →
+    (next : State) →
+    ((cluster : Cluster) (before after : List (List ℕ)) (barred : Bars) → IsNear old cluster before barred →
+    (dead ≡ [] → after ≡ before) → IsNear new cluster after barred) →
     IsNear old cluster s.holders s.workers.barred →
-    fold died (heard_state s counts) (filter (has_number dead) (range_with_len 0 count)) ≡ next →
+    fold died (heard_state s counts) dead ≡ next →
     IsNear new cluster next.holders next.workers.barred
-near_swept s counts old new cluster dead count next far near is =
+near_swept s counts old new cluster dead next far near is =
     near_with_bars new cluster next.holders
-    (sym (ap (λ (x : State). x.workers.barred) is)
-    ∙ bars_died (heard_state s counts) (filter (has_number dead) (range_with_len 0 count)))
+    (sym (ap (λ (x : State). x.workers.barred) is) ∙ bars_died (heard_state s counts) dead)
     (far cluster s.holders next.holders s.workers.barred near
     (λ none. sym (ap (λ (x : State). x.holders) is)
-    ∙ ap (λ (x : State). x.holders) (none_died (heard_state s counts) dead count none)))
+    ∙ ap (λ those. (fold died (heard_state s counts) those).holders) none))
 
 -- a master with another engine
-pub with_engine : {m : Inside} → IsMaster m → (engine : Kept) →
-    IsNear engine m.cluster m.holders m.workers.barred → IsMaster (record m { engine = engine })
-with_engine was engine near = still_master was refl was.kept was.made near
+pub with_engine : {m : Inside} → IsMaster m → (engine : Kept) (touched : Touched) →
+    IsNear engine m.cluster m.holders m.workers.barred × IsFlagged engine touched (map shown_as m.splits.items) →
+    IsMaster (record m { engine = engine; touched = touched })
+with_engine was engine touched near = still_master was refl was.kept was.made near
 
 -- the wave of the present state is near
 pub present_is_near : {m : Inside} {j : Job} (wave : Wave) → IsMaster m → job_of m ≡ j →

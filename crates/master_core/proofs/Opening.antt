@@ -1,5 +1,5 @@
 -- A master of which nothing has happened.
-use Rattle.std.proofs.Common.{◌≡◌, ℕ, zero, suc, List, [], ◌∷◌, map, Some, refl, ap, ◌∙◌}
+use Rattle.std.proofs.Common.{◌≡◌, ℕ, zero, suc, List, [], ◌∷◌, length, map, Some, refl, ap, ◌∙◌}
 use Rattle.std.specs.Prelude.{replicate, slice_get}
 use Rattle.word_map.specs.Runs.{MapView}
 use Rattle.wave_problem.specs.Wave.{Split}
@@ -27,7 +27,8 @@ all_pending (split ∷ splits) = ap (λ rest. states.Pending ∷ rest) (all_pend
 -- tables as they are at first make the opening state
 pub opening_is : (setup : Setup) (workers : Workers) (holders : List (List ℕ)) (entries : List SplitEntry)
     (parts : List PartState) (starts : List Start) (sweeps : List (List ℕ)) (events : ℕ) →
-    workers ≡ opening_workers setup.cluster.slots setup.cluster.silence →
+    workers ≡ opening_workers setup.cluster.slots (length setup.cluster.splits) setup.cluster.silence
+    setup.limits.events →
     holders ≡ map (λ split. split.holders) setup.cluster.splits →
     entries ≡ map (λ _. Pending) setup.cluster.splits → parts ≡ replicate setup.cluster.parts part.Pending →
     starts ≡ [] → sweeps ≡ [] → events ≡ 0 →

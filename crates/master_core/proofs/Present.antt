@@ -1,6 +1,5 @@
 -- The problem of a master's present state.
 use Rattle.std.proofs.Common.{◌≡◌, ℕ, List, length, map, refl, sym, ap, ◌∙◌, subst}
-use Rattle.node_ids.specs.Sets.{marked_rows}
 use Rattle.rack_tree.specs.Tree.{Tree}
 use Rattle.wave_problem.specs.declared.lines.WorkerLine.{WorkerLine}
 use Rattle.wave_problem.specs.Wave.{Split, Wave, IsWithinLimits, wave_from}
@@ -18,8 +17,7 @@ pub record AreParts (m : Inside) (tree : Tree) (workers : List WorkerLine) (spli
   pub tree_is : tree ≡ m.cluster.tree
   pub workers_are : workers ≡ map worker_line m.workers.each
   pub splits_are : splits ≡ split_lines m.cluster.splits (map shown_as m.splits.items) m.holders
-  pub barred_are : barred
-      ≡ marked_rows m.workers.barred (length m.cluster.splits) (length m.cluster.slots)
+  pub barred_are : barred ≡ m.workers.barred.rows
 
 pub problem_is : (m : Inside) (tree : Tree) (workers : List WorkerLine) (splits : List Split)
     (barred : List (List ℕ)) → AreParts m tree workers splits barred →
@@ -33,15 +31,6 @@ pub parts_within : (m : Inside) (tree : Tree) (workers : List WorkerLine) (split
 parts_within m tree workers splits barred was parts =
     subst IsWithinLimits (sym (problem_is m tree workers splits barred parts))
     (within_limits (setup_of m) (state_of m) was.kept.whole was.kept.tidy)
-
--- its barred pairs, for as many lines as the tables have workers
-pub bars_are : (m : Inside) (lines : List WorkerLine) (splits : List Split) (table : List ℕ) → IsMaster m →
-    map worker_line m.workers.each ≡ lines → splits ≡ m.cluster.splits → table ≡ m.workers.barred →
-    (problem_of (setup_of m) (state_of m)).barred ≡ marked_rows table (length splits) (length lines)
-bars_are m lines splits table was lines_are splits_are table_is =
-    let count : length lines ≡ length m.cluster.slots =
-    sym (ap length lines_are) ∙ length-workers (setup_of m) (state_of m) was.kept.tidy in
-    rw (splits_are, table_is, count) refl
 
 -- it has the sizes of the cluster
 pub splits_of_problem : (m : Inside) (j : Job) (problem : Wave) → IsMaster m → job_of m ≡ j →

@@ -5,13 +5,14 @@ use Rattle.master_state.specs.Jobs.{Job, IsKept}
 use Rattle.master_core.specs.declared.cluster.Cluster.TheInside as cluster
 use Rattle.master_core.specs.declared.master.Master.TheInside.{Inside}
 use Rattle.master_core.specs.Clusters.{cluster_from}
-use Rattle.master_core.specs.Near.{IsNear}
+use Rattle.master_core.specs.Near.{IsFlagged, IsNear}
 use Rattle.master_tables.specs.Entries.{shown_as}
 use Rattle.master_tables.specs.Kept.{AreOfSplits}
 
 -- the fields of a cluster as contracts see them
 abbrev pub cluster_of : cluster.Inside → Cluster
-cluster_of c = cluster_from c.tree c.slots.items c.splits.items c.texts.items c.parts c.silence
+cluster_of c =
+    cluster_from c.tree c.slots.items c.splits.items c.texts.items c.parts c.silence c.holder_limit
 
 -- and those of a master
 abbrev pub setup_of : Inside → Setup
@@ -44,9 +45,10 @@ pub record HasRoom (m : Inside) : Type 0 where
   pub workers : m.sweeps.workers ≡ length m.cluster.slots
   pub results : m.cluster.parts ≤ vec_capacity m.results
 
--- the engine is near where it says so
+-- the engine is near where it says so, and has the flags of all splits that were not touched
 abbrev pub HasNearEngine : Inside → Type 0
 HasNearEngine m = IsNear m.engine m.cluster m.holders m.workers.barred
+    × IsFlagged m.engine m.touched (map shown_as m.splits.items)
 
 -- what every master keeps
 pub record IsMaster (m : Inside) : Type 0 where

@@ -1,4 +1,5 @@
 pub mod Attempts
+pub mod Backups
 pub mod Clusters
 pub mod Inside
 pub mod Near

@@ -1,7 +1,8 @@
 -- What an engine that is kept from wave to wave has of the master's present state.
-use Rattle.std.specs.Prelude.{ℕ, ◌≡◌, ◌≢◌, ◌<◌, Bool, List, length, map}
-use Rattle.node_ids.specs.Sets.{marked_rows}
-use Rattle.wave_problem.specs.Wave.{Wave}
+use Rattle.std.specs.Prelude.{ℕ, ◌≡◌, ◌≢◌, ◌<◌, ◌⊎◌, Bool, IsTrue, false, List, length, map, slice_index_or}
+use Rattle.std.specs.List.{Contains}
+use Rattle.wave_problem.specs.Wave.{Wave, split_at}
+use Rattle.worker_table.specs.Bars.{Bars}
 use Rattle.tree_flow.specs.declared.nodes.Place.TheVariants.{Unshipped}
 use Rattle.tree_flow.specs.State.{place_of}
 use Rattle.tree_planner.specs.Shown.{state_in, Shown}
@@ -13,22 +14,38 @@ use Rattle.master_tables.specs.Entries.{shown_as}
 use Rattle.master_tables.specs.Lines.{split_lines}
 use Rattle.master_core.specs.declared.kept.Kept.{Kept}
 use Rattle.master_core.specs.declared.kept.Kept.TheVariants.{None, Near, Far}
+use Rattle.master_core.specs.declared.touched.Touched.{Touched}
 
--- the wave has the cluster's tree and bytes, these holders and the barred pairs of this table, in some states
+-- the wave has the cluster's tree and bytes, these holders and these barred pairs, in some states
 -- of the splits
-pub record HasPlaces (wave : Wave) (cluster : Cluster) (holders : List (List ℕ)) (barred : List ℕ)
+pub record HasPlaces (wave : Wave) (cluster : Cluster) (holders : List (List ℕ)) (barred : Bars)
     : Type 0 where
   pub tree : wave.tree ≡ cluster.tree
   pub states : List SplitState
   pub sizes : length states ≡ length cluster.splits
   pub splits : wave.splits ≡ split_lines cluster.splits states holders
-  pub barred_are : wave.barred ≡ marked_rows barred (length cluster.splits) (length cluster.slots)
+  pub barred_are : wave.barred ≡ barred.rows
 
 -- an engine that is near stands for such a wave; of one that is far nothing is known
-abbrev pub IsNear : Kept → Cluster → List (List ℕ) → List ℕ → Type 0
+abbrev pub IsNear : Kept → Cluster → List (List ℕ) → Bars → Type 0
 IsNear None cluster holders barred = Unit {0}
 IsNear (Near engine) cluster holders barred = HasPlaces engine.wave cluster holders barred
 IsNear (Far engine) cluster holders barred = Unit {0}
+
+-- the split was touched
+abbrev pub IsTouched : Touched → ℕ → Type 0
+IsTouched touched s = IsTrue touched.any ⊎ Contains touched.splits.items s
+
+-- each split of the wave is pending where it is in these states, unless it was touched
+abbrev pub HasFlags : Wave → Touched → List SplitState → Type 0
+HasFlags wave touched states = (s : ℕ) → s < length wave.splits →
+    IsTouched touched s ⊎ ((split_at wave s).pending ≡ slice_index_or (map is_pending states) s false)
+
+-- and so it is in the wave of an engine that is near
+abbrev pub IsFlagged : Kept → Touched → List SplitState → Type 0
+IsFlagged None touched states = Unit {0}
+IsFlagged (Near engine) touched states = HasFlags engine.wave touched states
+IsFlagged (Far engine) touched states = Unit {0}
 
 -- which of these splits are pending
 abbrev pub flags_of : List SplitEntry → List Bool

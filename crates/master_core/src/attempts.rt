@@ -1,9 +1,12 @@
-ghost use Rattle.std.specs.Prelude.{◌≡◌, ◌<◌, ℕ, List, length};
+ghost use Rattle.std.specs.Prelude.{◌≡◌, ◌<◌, ℕ, List, false, length};
 ghost use Rattle.worker_table.specs.Workers.{taken_slots};
+ghost use Rattle.compact_lists.specs.Lists.{is_join};
 ghost use Rattle.master_state.specs.States.{Cluster, State};
 ghost use Rattle.master_state.specs.Jobs.{event_of};
 ghost use Rattle.master_core.specs.Attempts.{freed_by, part_end, split_end};
-ghost use Rattle.master_core.specs.Near.{IsNear};
+ghost use Rattle.master_state.specs.declared.states.SplitState.{SplitState};
+ghost use Rattle.master_core.specs.declared.touched.Touched.{Touched};
+ghost use Rattle.master_core.specs.Near.{IsFlagged, IsNear};
 
 use crate::kept::Kept;
 use master_state::Event;
@@ -28,8 +31,9 @@ pub enum End {
 
 impl End {
     /// The event of the end of a split's attempt.
-    pub fn of_split(self, attempt: AttemptNo) -> Event
-        ensures { (s : State) → result ≡ event_of s (split_end self attempt) }
+    pub fn of_split(self, attempt: AttemptNo) -> Event<'static>
+        ensures event { (s : State) → result ≡ event_of s (split_end self attempt) }
+        ensures no_join { is_join result ≡ false }
     {
         match self {
             End::Failed => Event::MapFailed(attempt),
@@ -38,8 +42,9 @@ impl End {
     }
 
     /// That of a part's.
-    pub fn of_part(self, attempt: AttemptNo) -> Event
-        ensures { (s : State) → result ≡ event_of s (part_end self attempt) }
+    pub fn of_part(self, attempt: AttemptNo) -> Event<'static>
+        ensures event { (s : State) → result ≡ event_of s (part_end self attempt) }
+        ensures no_join { is_join result ≡ false }
     {
         match self {
             End::Failed => Event::PartFailed(attempt),
@@ -52,11 +57,14 @@ impl End {
 pub fn free_slot(workers: &mut WorkerTable, engine: &mut Kept, found: RunningSplit, end: End)
     requires known { found.worker < length workers.old.each }
     requires taken { 0 < taken_slots workers.old found.worker }
-    requires few { (found.split < 1024) × (found.worker < 256) }
+    requires bars { found.split < length workers.old.barred.rows }
+    requires room { 0 < workers.old.barred.room }
     ensures freed { workers.new ≡ freed_by end workers.old found.split found.worker }
     ensures near { (cluster : Cluster) (holders : List (List ℕ))
         → IsNear engine.old cluster holders workers.old.barred
         → IsNear engine.new cluster holders workers.new.barred }
+    ensures flagged { (touched : Touched) (states : List SplitState)
+        → IsFlagged engine.old touched states → IsFlagged engine.new touched states }
 {
     workers.give_slot(found.worker);
     match end {

@@ -6,6 +6,7 @@ ghost use Rattle.shuffle_reduce.specs.Gather.{values_of};
 ghost use Rattle.master_state.specs.States.{IsWhole};
 ghost use Rattle.master_core.specs.Clusters.{AreFewAndSmall, cluster_from, documents_in};
 
+use block_map::HolderLimit;
 use master_state::{MAX_JOB_SPLITS, MAX_JOB_WORKERS};
 use rack_tree::RackTree;
 use std::alloc::Global;
@@ -19,7 +20,7 @@ use word_map::SplitText;
 pub const MAX_PARTS: usize = 64;
 
 /// The greatest number of documents of a job.
-pub const MAX_DOCUMENTS: usize = 65_536;
+pub const MAX_DOCUMENTS: usize = 1_048_576;
 
 /// Why a cluster was not made. It is tested in this order.
 #[derive(Clone, Copy, Debug, PartialEq, Eq, Error)]
@@ -36,7 +37,8 @@ pub enum ClusterError {
 }
 
 /// A job's input: racks and workers, each worker's slots, splits with their first holders and texts, the
-/// number of parts, and the silence (sweeps without a new beat) after which a worker is dead.
+/// number of parts, the silence (sweeps without a new beat) after which a worker is dead, and to how many
+/// holders a split may grow.
 pub struct Cluster {
     tree: RackTree,
     slots: Vec<u8>,
@@ -44,6 +46,7 @@ pub struct Cluster {
     texts: Vec<Arc<SplitText>>,
     parts: usize,
     silence: u32,
+    holder_limit: HolderLimit,
 }
 
 // (one call wherever it is dropped)
@@ -56,6 +59,7 @@ impl Drop for Cluster {
             texts: _,
             parts: _,
             silence: _,
+            holder_limit: _,
         } = self;
     }
 }
@@ -83,6 +87,7 @@ impl Cluster {
         texts: Vec<Arc<SplitText>>,
         parts: usize,
         silence: u32,
+        holder_limit: HolderLimit,
     ) -> Result<Cluster, ClusterError>
         requires workers { length tree.rack_of ≡ length slots.now }
         requires texts { map (λ text. text.split) (values_of texts.items)
@@ -90,7 +95,7 @@ impl Cluster {
         requires parts { 1 ≤ parts }
         requires silence { 1 ≤ silence }
         ensures ok { IfOk result (λ c.
-            c ≡ cluster_from tree slots.now splits.items texts.items parts silence) }
+            c ≡ cluster_from tree slots.now splits.items texts.items parts silence holder_limit) }
         ensures limit { (result ≡ Err ClusterError.Limit)
             ↔ (AreFewAndSmall slots.now splits.items (values_of texts.items) parts → ⊥) }
         ensures holder { (result ≡ Err ClusterError.Holder)
@@ -114,6 +119,7 @@ impl Cluster {
                 texts,
                 parts,
                 silence,
+                holder_limit,
             }),
             Err(_) => Err(ClusterError::Memory),
         }
@@ -165,6 +171,13 @@ impl Cluster {
     {
         self.silence
     }
+
+    /// To how many holders a split may grow.
+    pub fn holder_limit(&self) -> HolderLimit
+        ensures { result ≡ self.now.holder_limit }
+    {
+        self.holder_limit
+    }
 }
 
 // Whether the limits that a cluster has beside its tree are kept.
@@ -185,7 +198,7 @@ fn are_few_and_small(
 }
 
 fn have_few_documents(texts: &[Arc<SplitText>]) -> bool
-    ensures { IsTrue result ↔ documents_in (values_of texts.now) ≤ 65536 }
+    ensures { IsTrue result ↔ documents_in (values_of texts.now) ≤ 1048576 }
 {
     let mut left = MAX_DOCUMENTS;
     for text in texts {

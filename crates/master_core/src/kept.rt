@@ -1,12 +1,14 @@
 //! The engine that a master keeps from wave to wave.
-ghost use Rattle.std.specs.Prelude.{◌≡◌, ℕ, List};
-ghost use Rattle.node_ids.specs.Sets.{Has};
+ghost use Rattle.std.specs.Prelude.{◌≡◌, ℕ, List, []};
+ghost use Rattle.worker_table.specs.Bars.{Bars};
 ghost use Rattle.master_state.specs.States.{Cluster};
-ghost use Rattle.master_core.specs.Near.{IsNear};
+ghost use Rattle.master_state.specs.declared.states.SplitState.{SplitState};
+ghost use Rattle.master_core.specs.declared.touched.Touched.{Touched};
+ghost use Rattle.master_core.specs.Near.{IsFlagged, IsNear};
 
-use node_ids::WorkerSet;
 use std::mem;
 use tree_planner::Engine;
+use worker_table::DeadList;
 
 /// The engine of the last wave, from which the next one is planned.
 #[derive(Drop)]
@@ -22,8 +24,10 @@ pub enum Kept {
 impl Kept {
     /// Holders or barred pairs change.
     pub fn turn_far(&mut self)
-        ensures { (cluster : Cluster) (holders : List (List ℕ)) (barred : List ℕ)
+        ensures near { (cluster : Cluster) (holders : List (List ℕ)) (barred : Bars)
             → IsNear self.new cluster holders barred }
+        ensures flagged { (touched : Touched) (states : List SplitState)
+            → IsFlagged self.new touched states }
     {
         // (an engine is big: it is moved only where its kind changes)
         if matches!(self, Kept::Near(_)) {
@@ -35,11 +39,15 @@ impl Kept {
     }
 
     /// Where one of these workers died, its replicas are no holders any more.
-    pub fn turn_far_by(&mut self, dead: &WorkerSet)
-        ensures { (cluster : Cluster) (old new : List (List ℕ)) (barred : List ℕ)
+    pub fn turn_far_by(&mut self, dead: &DeadList)
+        ensures near { (cluster : Cluster) (old new : List (List ℕ)) (barred : Bars)
             → IsNear self.old cluster old barred
-            → (((w : ℕ) → Has dead.now w → ⊥) → new ≡ old)
+            → (dead.now.items ≡ [] → new ≡ old)
             → IsNear self.new cluster new barred }
+        ensures flagged { (touched : Touched) (old new : List SplitState)
+            → IsFlagged self.old touched old
+            → (dead.now.items ≡ [] → new ≡ old)
+            → IsFlagged self.new touched new }
     {
         if !dead.is_empty() {
             self.turn_far();

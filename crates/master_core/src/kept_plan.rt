@@ -1,17 +1,21 @@
 //! The engine of a wave, and its plan.
-ghost use Rattle.std.specs.Prelude.{◌≡◌, ◌<◌, ◌≤◌, false, length, map, slice_index_or, All, IfOk, IsTrue, OnOk};
+ghost use Rattle.std.specs.Prelude.{◌≡◌, ◌≢◌, ℕ, ◌<◌, ◌≤◌, false, length, map, slice_index_or, All, IfOk};
+ghost use Rattle.std.specs.Prelude.{◌⊎◌, IsTrue, OnOk};
+ghost use Rattle.std.specs.List.{Contains};
 ghost use Rattle.wave_problem.specs.declared.TheConstants.{MAX_SLOTS};
 ghost use Rattle.wave_problem.specs.Assignment.{IsBest, pairs_of, total};
-ghost use Rattle.wave_problem.specs.Wave.{worker_in};
+ghost use Rattle.wave_problem.specs.Wave.{split_at, worker_in};
 ghost use Rattle.price_certificate.specs.Certificate.{claim, Certifies, HasOneSize};
 ghost use Rattle.flow_network.specs.declared.kinds.NetworkKind.{NetworkKind};
 ghost use Rattle.tree_flow.specs.Slots.{with_workers};
 ghost use Rattle.tree_planner.specs.Going.{flagged, turned, HasSameGround};
 ghost use Rattle.master_state.specs.Steps.{worker_line};
 ghost use Rattle.wave_planner.specs.Planned.{IsMadeOver};
-ghost use Rattle.master_core.specs.Near.{flags_of, IsSettled};
+ghost use Rattle.master_tables.specs.Entries.{shown_as};
+ghost use Rattle.master_core.specs.Near.{flags_of, HasFlags, IsSettled};
 
 use crate::lists::pending_flags;
+use crate::touched::Touched;
 use master_tables::entries::{SplitEntry, is_pending};
 use master_tables::lines::worker_lines;
 use node_ids::{SplitNo, WorkerNo};
@@ -20,6 +24,10 @@ use tree_planner::{Engine, Found};
 use wave_planner::Planned;
 use wave_problem::{Problem, WorkerLine};
 use worker_table::Worker;
+
+// To ship all splits anew takes as long as so many searches, one for each slot that comes back. A search looks
+// at each split.
+const MANY_SLOTS: usize = 256;
 
 /// The plan of an engine with all splits shipped, and prices that certify it.
 pub(crate) fn plan_of(alloc: Global, engine: &Engine) -> Result<Planned, AllocError>
@@ -68,42 +76,106 @@ pub(crate) fn fresh(alloc: Global, problem: Problem) -> Result<Engine, AllocErro
     Ok(engine)
 }
 
-/// The engine after it kept up with these workers and these splits, with all splits shipped. The fewer workers
-/// and splits have changed, the less there is to do. Where other workers live, the engine is made anew.
+/// The engine after it kept up with these workers and these splits, with all splits shipped. The fewer of them
+/// have changed, the less there is to do: only touched splits are looked at. Where other workers live, the
+/// engine is made anew.
 pub(crate) fn kept_up(
     alloc: Global,
     engine: Engine,
     workers: &[Worker],
+    touched: &Touched,
     entries: &[SplitEntry],
 ) -> Result<Engine, AllocError>
     requires workers { length workers.now ≡ length engine.wave.workers }
     requires within { All (λ worker. worker.taken ≤ worker.slots) workers.now }
     requires most { All (λ line. line.free ≤ MAX_SLOTS) (map worker_line workers.now) }
     requires splits { length entries.now ≡ length engine.wave.splits }
+    requires flagged { HasFlags engine.wave touched.now (map shown_as entries.now) }
     ensures wave { IfOk result (λ kept.
         kept.wave ≡ turned engine.wave (map worker_line workers.now) (flags_of entries.now)) }
     ensures settled { IfOk result IsSettled }
 {
     let mut engine = engine;
-    flag_splits(alloc, &mut engine, entries)?;
+    flag_splits(alloc, &mut engine, touched, entries)?;
     put_workers(alloc, &mut engine, workers, entries)?;
     engine.settle(alloc)?;
     Ok(engine)
 }
 
+// Lets just these splits be pending, of which only touched ones may have changed.
+fn flag_splits(
+    alloc: Global,
+    engine: &mut Engine,
+    touched: &Touched,
+    entries: &[SplitEntry],
+) -> Result<(), AllocError>
+    requires splits { length entries.now ≡ length engine.old.wave.splits }
+    requires flagged { HasFlags engine.old.wave touched.now (map shown_as entries.now) }
+    ensures ground { OnOk result (HasSameGround engine.old.wave engine.new.wave) }
+    ensures flagged { OnOk result
+        (flagged engine.new.wave.splits (flags_of entries.now) ≡ engine.new.wave.splits) }
+{
+    if touched.any {
+        flag_all(alloc, engine, entries)
+    } else {
+        flag_each(alloc, engine, &touched.splits, entries)
+    }
+}
+
 // Lets just these splits be pending, one after another.
-fn flag_splits(alloc: Global, engine: &mut Engine, entries: &[SplitEntry]) -> Result<(), AllocError>
+fn flag_all(alloc: Global, engine: &mut Engine, entries: &[SplitEntry]) -> Result<(), AllocError>
     requires { length entries.now ≡ length engine.old.wave.splits }
     ensures ground { OnOk result (HasSameGround engine.old.wave engine.new.wave) }
     ensures flagged { OnOk result
         (flagged engine.new.wave.splits (flags_of entries.now) ≡ engine.new.wave.splits) }
 {
     for s in 0..engine.problem().splits() {
-        let split = SplitNo::new(s as u32);
-        let pending = flag_at(entries, s);
-        if engine.problem().is_pending(split) != pending {
-            engine.flag(alloc, split, pending)?;
+        flag_split(alloc, engine, SplitNo::new(s as u32), entries)?;
+    }
+    Ok(())
+}
+
+// Lets just these splits be pending, where each split that is not listed has its flag already.
+fn flag_each(
+    alloc: Global,
+    engine: &mut Engine,
+    splits: &[SplitNo],
+    entries: &[SplitEntry],
+) -> Result<(), AllocError>
+    requires size { length entries.now ≡ length engine.old.wave.splits }
+    requires others { (s : ℕ) → s < length engine.old.wave.splits → Contains splits.now s
+        ⊎ ((split_at engine.old.wave s).pending ≡ slice_index_or (flags_of entries.now) s false) }
+    ensures ground { OnOk result (HasSameGround engine.old.wave engine.new.wave) }
+    ensures flagged { OnOk result
+        (flagged engine.new.wave.splits (flags_of entries.now) ≡ engine.new.wave.splits) }
+{
+    for i in 0..splits.len() {
+        let split = splits[i];
+        if split.index() < engine.problem().splits() {
+            flag_split(alloc, engine, split, entries)?;
         }
+    }
+    Ok(())
+}
+
+// Lets the split be pending, or not, as its entry says.
+fn flag_split(
+    alloc: Global,
+    engine: &mut Engine,
+    split: SplitNo,
+    entries: &[SplitEntry],
+) -> Result<(), AllocError>
+    requires split { split < length engine.old.wave.splits }
+    requires size { length entries.now ≡ length engine.old.wave.splits }
+    ensures ground { OnOk result (HasSameGround engine.old.wave engine.new.wave) }
+    ensures here { OnOk result
+        ((split_at engine.new.wave split).pending ≡ slice_index_or (flags_of entries.now) split false) }
+    ensures others { OnOk result ((s : ℕ) → s ≢ split
+        → (split_at engine.new.wave s).pending ≡ (split_at engine.old.wave s).pending) }
+{
+    let pending = flag_at(entries, split.index());
+    if engine.problem().is_pending(split) != pending {
+        engine.flag(alloc, split, pending)?;
     }
     Ok(())
 }
@@ -131,13 +203,26 @@ fn put_workers(
     ensures { OnOk result (engine.new.wave
         ≡ turned engine.old.wave (map worker_line workers.now) (flags_of entries.now)) }
 {
-    if fit_workers(alloc, engine, workers)? {
+    if are_few_back(engine.problem(), workers) && fit_workers(alloc, engine, workers)? {
         return Ok(());
     }
     let lines = worker_lines(alloc, workers)?;
     let pending = pending_flags(alloc, entries)?;
     engine.renew(alloc, &lines, &pending)?;
     Ok(())
+}
+
+// Whether so few slots come back that to search for each of them costs less than to ship all splits anew.
+fn are_few_back(problem: &Problem, workers: &[Worker]) -> bool
+    requires workers { length workers.now ≡ length problem.now.workers }
+    requires within { All (λ worker. worker.taken ≤ worker.slots) workers.now }
+{
+    let mut back = 0;
+    for w in 0..problem.workers() {
+        let free = line_at(workers, w).free;
+        back += usize::from(free.saturating_sub(problem.free(WorkerNo::new(w as u16))));
+    }
+    back < MANY_SLOTS
 }
 
 // Loses and frees slots until each worker has as many as its line says. It answers whether this could be done:

@@ -16,12 +16,14 @@ mod lists;
 pub mod master;
 mod piles;
 mod reducing;
+mod touched;
 
 pub use cluster::{Cluster, ClusterError};
 pub use finished::{are_parts_done, index_of};
+pub use holders::first_holders;
 pub use master::Master;
 pub use master_state::{
-    Answer, Attempt, CommitError, Event, Glance, Limits, PartState, Reply, SplitState, Start,
-    Swept, Wave, Why, Work,
+    Answer, Attempt, CommitError, Event, Glance, Limits, PartState, Reply, SplitState, Start, Wave,
+    Why, Work,
 };
 pub use piles::Piles;

@@ -1,5 +1,5 @@
 //! The lists that grow with a master's history, and that of its pending splits.
-ghost use Rattle.std.specs.Prelude.{◌≡◌, ◌≤◌, [], IfOk, vec_capacity};
+ghost use Rattle.std.specs.Prelude.{◌≡◌, ◌<◌, ◌^◌, [], IfOk, vec_capacity};
 ghost use Rattle.master_core.specs.Near.{flags_of};
 
 use compact_lists::{CountList, EventList};
@@ -24,7 +24,7 @@ pub(crate) fn empty_lists(
     parts: usize,
     limits: Limits,
 ) -> Result<Lists, AllocError>
-    requires few { workers ≤ 256 }
+    requires few { workers < 2 ^ 32 }
     ensures results { IfOk result (λ lists. lists.results.items ≡ []) }
     ensures starts { IfOk result (λ lists. lists.starts.items ≡ []) }
     ensures sweeps { IfOk result (λ lists. lists.sweeps.items ≡ []) }

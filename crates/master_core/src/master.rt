@@ -16,6 +16,7 @@ use crate::holders::first_holders;
 use crate::kept::Kept;
 use crate::lists::empty_lists;
 use crate::reducing::NextPart;
+use crate::touched::Touched;
 use block_map::BlockMap;
 use compact_lists::{CountList, EventList};
 use master_state::{Limits, PartState, Start};
@@ -40,8 +41,9 @@ pub struct Master {
     starts: Vec<Start>,
     sweeps: CountList,
     history: EventList,
-    // (callers see nothing of it)
+    // (callers see nothing of these)
     engine: Kept,
+    touched: Touched,
 }
 
 // (one call wherever it is dropped)
@@ -59,6 +61,7 @@ impl Drop for Master {
             sweeps: _,
             history: _,
             engine: _,
+            touched: _,
         } = self;
     }
 }
@@ -87,8 +90,17 @@ impl Master {
         let parts = vec![in alloc; PartState::Pending; cluster.parts()]?;
         let splits = pending_entries(alloc, cluster.splits())?;
         let holders = first_holders(alloc, &cluster)?;
-        let workers = WorkerTable::new(alloc, cluster.slots(), cluster.silence())?;
+        let split_count = cluster.splits().len();
+        let bars = limits.events as usize;
+        let workers = WorkerTable::new(
+            alloc,
+            cluster.slots(),
+            split_count,
+            cluster.silence(),
+            bars,
+        )?;
         let lists = empty_lists(alloc, cluster.slots().len(), cluster.parts(), limits)?;
+        let touched = Touched::new(alloc)?;
         Ok(Master {
             cluster,
             limits,
@@ -101,6 +113,7 @@ impl Master {
             sweeps: lists.sweeps,
             history: lists.history,
             engine: Kept::None,
+            touched,
         })
     }
 
@@ -126,8 +139,31 @@ impl Master {
             sweeps: _,
             history: _,
             engine: _,
+            touched: _,
         } = self;
         (splits, results)
+    }
+
+    /// Every accepted event, and the counts of every sweep.
+    pub fn into_history(self) -> (EventList, CountList)
+        ensures history { result.0.items ≡ self.history }
+        ensures sweeps { result.1.items ≡ self.state.sweeps }
+    {
+        let Master {
+            cluster: _,
+            limits: _,
+            workers: _,
+            holders: _,
+            splits: _,
+            parts: _,
+            results: _,
+            starts: _,
+            sweeps,
+            history,
+            engine: _,
+            touched: _,
+        } = self;
+        (history, sweeps)
     }
 
     // Where the attempt runs.

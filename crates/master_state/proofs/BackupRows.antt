@@ -3,6 +3,7 @@ use Rattle.std.proofs.Common.{◌≡◌, List, [], ◌∷◌, ◌++◌, Some, No
 use Rattle.word_map.specs.Texts.{SplitDocuments}
 use Rattle.word_map.specs.Runs.{MapView}
 use Rattle.worker_table.specs.Workers.{taken_slots, is_barred}
+use Rattle.block_map.specs.declared.HolderLimit.TheVariants.{Eight}
 use Rattle.master_state.specs.declared.answers.Why.TheVariants.{OldAttempt, NoBackup, Barred, DeadWorker}
 use Rattle.master_state.specs.declared.answers.Why.TheVariants.{NotReady}
 use Rattle.master_state.specs.declared.states.Attempt.{Attempt}
@@ -25,6 +26,7 @@ job = record {
     texts = one ∷ [];
     parts = 1;
     silence = 3;
+    holder_limit = Eight;
   };
   limits = record { events = 9; attempts = 9; sweeps = 0 };
 }

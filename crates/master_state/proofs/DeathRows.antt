@@ -1,8 +1,10 @@
 -- Deaths in a sweep, holders that stand twice, and a return with replicas.
 use Rattle.std.proofs.Common.{◌≡◌, ℕ, List, [], ◌∷◌, ◌++◌, Some, None, refl, true, false, replicate, map}
+use Rattle.std.specs.List.{range_with_len}
 use Rattle.word_map.specs.Texts.{SplitDocuments}
 use Rattle.worker_table.specs.Workers.{worker_at}
-use Rattle.master_state.specs.declared.answers.Why.TheVariants.{DeadWorker, LiveWorker, EightHolders}
+use Rattle.block_map.specs.declared.HolderLimit.TheVariants.{Eight, Sixteen}
+use Rattle.master_state.specs.declared.answers.Why.TheVariants.{DeadWorker, LiveWorker, ManyHolders}
 use Rattle.master_state.specs.declared.answers.Why.TheVariants.{AlreadyHolds, NotHolder}
 use Rattle.master_state.specs.declared.states.SplitState.TheVariants.{Pending, Running}
 use Rattle.master_state.specs.States.{Setup, State}
@@ -25,6 +27,7 @@ job = record {
     texts = text 0 ∷ text 1 ∷ text 2 ∷ [];
     parts = 1;
     silence = 1;
+    holder_limit = Eight;
   };
   limits = record { events = 19; attempts = 19; sweeps = 19 };
 }
@@ -36,7 +39,7 @@ begun = Start ((0, 0) ∷ (1, 0) ∷ (2, 1) ∷ []) ∷ Ask (MapDone 1 (record {
 
 -- a sweep that hears worker 2 alone
 abbrev pub counts : List ℕ
-counts = 0 ∷ 0 ∷ 7 ∷ replicate 253 0
+counts = 0 ∷ 0 ∷ 7 ∷ []
 
 abbrev pub swept_state : State
 swept_state = played job (begun ++ Ask (Sweep counts) ∷ [])
@@ -59,8 +62,7 @@ swept_beat = refl
 
 -- the counts of the dead are passed over, and a return keeps the last beat
 abbrev pub to_return : List Move
-to_return = begun ++ Ask (Sweep counts) ∷ Ask (Sweep (9 ∷ 9 ∷ 8 ∷ replicate 253 0)) ∷ Ask (Join 0 (5 ∷ []))
-    ∷ []
+to_return = begun ++ Ask (Sweep counts) ∷ Ask (Sweep (9 ∷ 9 ∷ 8 ∷ [])) ∷ Ask (Join 0 (0 ∷ 2 ∷ [])) ∷ []
 
 abbrev pub returned : State
 returned = played job to_return
@@ -95,12 +97,33 @@ eight = record {
     texts = text 0 ∷ [];
     parts = 1;
     silence = 1;
+    holder_limit = Eight;
   };
   limits = record { events = 9; attempts = 9; sweeps = 9 };
 }
 
-eight_answers : answers eight (Ask (Add 0 3) ∷ Ask (Add 0 8) ∷ Ask (Join 8 (1 ∷ [])) ∷ Ask (Die 8) ∷ Ask
-    (Join 8 (1 ∷ [])) ∷ Ask (Lose 0 3) ∷ Ask (Lose 0 3) ∷ Ask (Join 8 (1 ∷ [])) ∷ [])
-    ≡ Some AlreadyHolds ∷ Some EightHolders ∷ Some LiveWorker ∷ None ∷ Some EightHolders ∷ None ∷ Some
+eight_answers : answers eight (Ask (Add 0 3) ∷ Ask (Add 0 8) ∷ Ask (Join 8 (0 ∷ [])) ∷ Ask (Die 8) ∷ Ask
+    (Join 8 (0 ∷ [])) ∷ Ask (Lose 0 3) ∷ Ask (Lose 0 3) ∷ Ask (Join 8 (0 ∷ [])) ∷ [])
+    ≡ Some AlreadyHolds ∷ Some ManyHolders ∷ Some LiveWorker ∷ None ∷ Some ManyHolders ∷ None ∷ Some
     NotHolder ∷ None ∷ []
 eight_answers = refl
+
+-- where a split may grow to sixteen holders, the ninth is taken, and the seventeenth is not
+abbrev pub sixteen : Setup
+sixteen = record eight {
+  cluster = record {
+    tree = record { centres = 1; centre_of = 0 ∷ []; rack_of = replicate 17 0 };
+    slots = replicate 17 1;
+    splits = record { bytes = 1; pending = true; holders = 0 ∷ 1 ∷ 2 ∷ 3 ∷ 4 ∷ 5 ∷ 6 ∷ 7 ∷ [] }
+        ∷ record { bytes = 1; pending = true; holders = range_with_len 0 16 } ∷ [];
+    texts = text 0 ∷ text 1 ∷ [];
+    parts = 1;
+    silence = 1;
+    holder_limit = Sixteen;
+  };
+}
+
+sixteen_answers : answers sixteen (Ask (Add 0 8) ∷ Ask (Add 1 16) ∷ Ask (Die 16)
+    ∷ Ask (Join 16 (1 ∷ [])) ∷ Ask (Join 16 (0 ∷ [])) ∷ [])
+    ≡ None ∷ Some ManyHolders ∷ None ∷ Some ManyHolders ∷ None ∷ []
+sixteen_answers = refl

@@ -13,7 +13,7 @@ use Rattle.std.proofs.lemmas.List.Filters.{sum_by-filter_both}
 use Rattle.std.proofs.lemmas.List.Folds.{list_any-append}
 use Rattle.std.proofs.lemmas.List.Sums.{length-filter}
 use Rattle.std.proofs.lemmas.Option.{slice_get-get_or}
-use Rattle.node_ids.proofs.Updating.{sum_by-updated}
+use Rattle.node_ids.proofs.Updating.{length-updated, sum_by-updated}
 use Rattle.word_map.specs.Runs.{MapView}
 use Rattle.shuffle_reduce.specs.Merged.{PartView}
 use Rattle.worker_table.specs.Workers.{Workers, is_live, taken_slots, with_slot_given, with_death, with_bar}
@@ -191,7 +191,7 @@ tidy_map_failed setup s a tidy allowed =
     let left = without_attempt s a in
     let table = with_bar left.workers (split_running s a) (worker_of s a) in
     let kept = tidy_without setup s a tidy (any_of_split s a none.0) in
-    grind arith
+    grind (arith, length-updated)
 
 pub attempts-done_by : (a : ℕ) (split : SplitState) → runs a split ≡ true → attempts_of (done_by a split) ≡ []
 attempts-done_by a split run = grind arith

@@ -1,6 +1,6 @@
 -- A replica that is added or lost keeps a state tidy.
 use Rattle.std.proofs.Common.{◌≡◌, ◌≢◌, ℕ, List, [], ◌∷◌, ◌++◌, Bool, true, false, not, ◌==◌, None}
-use Rattle.std.proofs.Common.{sym, ◌∙◌, arith, All}
+use Rattle.std.proofs.Common.{◌≤◌, length, sym, ◌∙◌, arith, All}
 use Rattle.std.specs.List.{list_any}
 use Rattle.std.specs.Prelude.{filter}
 use Rattle.std.specs.Cmp.{unsigned_Decides}
@@ -11,7 +11,10 @@ use Rattle.std.proofs.lemmas.List.Kept.{AllPairs-filter}
 use Rattle.std.proofs.lemmas.List.Elements.{All-nil, All-cons, All-append, All-filter, filter_passes}
 use Rattle.node_ids.proofs.Updating.{length-updated}
 use Rattle.worker_table.specs.Workers.{Workers, is_live}
-use Rattle.block_map.specs.Holdings.{holders_of, are_eight, without, with_holder, without_holder}
+use Rattle.block_map.specs.Holdings.{holders_of, are_full, without, with_holder, without_holder}
+use Rattle.block_map.specs.declared.HolderLimit.{HolderLimit}
+use Rattle.block_map.specs.declared.HolderLimit.TheVariants.{Eight, Sixteen}
+use Rattle.wave_problem.specs.declared.TheConstants.{MAX_HOLDERS}
 use Rattle.master_state.specs.States.{Setup, State}
 use Rattle.master_state.specs.Refusals.{Add, Lose, reasons, refusal}
 use Rattle.master_state.specs.Changes.{after}
@@ -42,16 +45,23 @@ none_is w (h ∷ holders) none =
     ∙ (or_parts (h == w) (list_any (λ g. g == w) holders) none).0)) (All-nil (λ v. h ≢ v)))
     (none_is w holders (or_parts (h == w) (list_any (λ g. g == w) holders) none).1)
 
-held_with : (workers : Workers) (w : ℕ) (holders : List ℕ) → is_live workers w ≡ true →
+-- a list that is not full has room for a holder more
+pub room_more : (limit : HolderLimit) (holders : List ℕ) (w : ℕ) → are_full limit holders ≡ false →
+    length (holders ++ w ∷ []) ≤ MAX_HOLDERS
+room_more Eight holders w few =
+    omega (arith, leb-false 8 (length holders) few, length-append holders (w ∷ []))
+room_more Sixteen holders w few =
+    omega (arith, leb-false 16 (length holders) few, length-append holders (w ∷ []))
+
+held_with : (limit : HolderLimit) (workers : Workers) (w : ℕ) (holders : List ℕ) → is_live workers w ≡ true →
     list_any (λ h. h == w) holders ≡ false →
-    are_eight holders ≡ false → AreHolders workers holders → AreHolders workers (holders ++ w ∷ [])
-held_with workers w holders lives none few held =
+    are_full limit holders ≡ false → AreHolders workers holders → AreHolders workers (holders ++ w ∷ [])
+held_with limit workers w holders lives none few held =
+    let room = room_more limit holders w few in
     grind (
       arith,
       common_steps,
       none_is,
-      length-append,
-      leb-false,
       AllPairs-append,
       All-append,
       All-cons,
@@ -75,6 +85,7 @@ tidy_add setup s split w tidy allowed =
     tidy_held setup s (with_holder s.holders split w) tidy
     (length-updated (λ holders. holders ++ w ∷ []) s.holders split)
     (All-updated (AreHolders s.workers) (λ holders. holders ++ w ∷ []) s.holders split [] tidy.held
-    (held_with s.workers w (holders_of s.holders split) (not-false (is_live s.workers w) none.0)
+    (held_with setup.cluster.holder_limit s.workers w (holders_of s.holders split)
+    (not-false (is_live s.workers w) none.0)
     none.1.0 none.1.1.0))
     (room_left setup s none.1.1.1.0)

@@ -4,6 +4,7 @@ use Rattle.word_map.specs.Texts.{SplitDocuments}
 use Rattle.word_map.specs.Runs.{MapView}
 use Rattle.wave_problem.specs.Wave.{Split}
 use Rattle.shuffle_reduce.specs.Merged.{PartView}
+use Rattle.block_map.specs.declared.HolderLimit.TheVariants.{Eight}
 use Rattle.master_state.specs.declared.answers.Why.TheVariants.{WrongInput, OldAttempt, NotReady}
 use Rattle.master_state.specs.declared.states.SplitState.TheVariants.{Pending, Done}
 use Rattle.master_state.specs.declared.states.PartState.TheVariants as part
@@ -22,6 +23,7 @@ job racks slots splits texts = record {
     texts = texts;
     parts = 1;
     silence = 3;
+    holder_limit = Eight;
   };
   limits = record { events = 9; attempts = 9; sweeps = 0 };
 }

@@ -7,6 +7,7 @@ use Rattle.std.proofs.lemmas.Grind.{common_steps}
 use Rattle.std.proofs.lemmas.List.{append-nil}
 use Rattle.std.proofs.lemmas.List.Elements.{All-nil, All-push}
 use Rattle.std.proofs.lemmas.List.Sums.{sum_by_push}
+use Rattle.wave_problem.specs.Assignment.{pairs_of}
 use Rattle.shuffle_reduce.specs.Merged.{IsPartOf, PartView, same_texts}
 use Rattle.shuffle_reduce.proofs.CoverLemmas.{Decides-same_texts}
 use Rattle.master_state.specs.declared.states.Attempt.{Attempt}
@@ -23,6 +24,7 @@ use Rattle.master_state.specs.Tidy.{IsTidy}
 use Rattle.master_state.specs.Jobs.{AreResults, IsResult, added_by}
 use Rattle.master_state.specs.Laws.{CallsKeep, WavesKeep, OpeningIsKept}
 use Rattle.master_state.proofs.Lists.{at-map, at-updated_other, at-updated_same, any_inside, any_found}
+use Rattle.master_state.proofs.BarRoom.{room_after, room_after_wave}
 use Rattle.master_state.proofs.Reasons.{none_applies}
 use Rattle.master_state.proofs.Places.{found_part, told_part, part_runs_alone, part_done_by_none}
 use Rattle.master_state.proofs.Starting.{all_started}
@@ -164,6 +166,7 @@ calls_keep old new call place kept accepted =
       small = rw next.setup kept.small;
       legal = legal-accepted old new call place kept.legal accepted;
       tidy = rw next.setup (tidy_change old.setup old.state call new.state kept.tidy accepted.change);
+      bars = rw (next.setup, accepted.change.leads) (omega (arith, kept.bars, room_after old.state call));
       results = rw (next.setup, next.results, accepted.change.leads)
           (results_after old.setup old.state call old.results kept.tidy accepted.change.known
           accepted.change.allowed kept.results);
@@ -178,6 +181,8 @@ waves_keep old new plan wave kept committed =
       small = rw next.setup kept.small;
       legal = grind (arith, Leads-more);
       tidy = rw next.setup (tidy_step old.setup old.state event new.state kept.tidy (plan, committed.change));
+      bars = rw (next.setup, committed.change.leads)
+          (omega (arith, kept.bars, room_after_wave old.state (pairs_of plan)));
       results = grind (arith, common_steps, results_same, parts_all_started);
     }
 

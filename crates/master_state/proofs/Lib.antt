@@ -16,6 +16,7 @@ pub mod Ending
 pub mod Starting
 pub mod Sweeping
 pub mod Waves
+pub mod BarRoom
 -- histories, the problem of a state, and what callers are promised
 pub mod Steps
 pub mod Histories

@@ -18,16 +18,18 @@ slots_fresh : (slots : List ℕ) → map (λ worker. worker.slots) (map fresh sl
 slots_fresh [] = refl
 slots_fresh (n ∷ slots) = ap (λ ns. n ∷ ns) (slots_fresh slots)
 
-live_fresh : (slots : List ℕ) (limit w : ℕ) → w < length slots →
-    is_live (opening_workers slots limit) w ≡ true
-live_fresh [] limit w inside = absurd (omega (arith, inside))
-live_fresh (n ∷ slots) limit zero inside = refl
-live_fresh (n ∷ slots) limit (suc w) inside = live_fresh slots limit w (omega (arith, inside))
+live_fresh : (slots : List ℕ) (splits limit room w : ℕ) → w < length slots →
+    is_live (opening_workers slots splits limit room) w ≡ true
+live_fresh [] splits limit room w inside = absurd (omega (arith, inside))
+live_fresh (n ∷ slots) splits limit room zero inside = refl
+live_fresh (n ∷ slots) splits limit room (suc w) inside =
+    live_fresh slots splits limit room w (omega (arith, inside))
 
-free_fresh : (slots : List ℕ) (limit w : ℕ) → taken_slots (opening_workers slots limit) w ≡ 0
-free_fresh [] limit w = refl
-free_fresh (n ∷ slots) limit zero = refl
-free_fresh (n ∷ slots) limit (suc w) = free_fresh slots limit w
+free_fresh : (slots : List ℕ) (splits limit room w : ℕ)
+    → taken_slots (opening_workers slots splits limit room) w ≡ 0
+free_fresh [] splits limit room w = refl
+free_fresh (n ∷ slots) splits limit room zero = refl
+free_fresh (n ∷ slots) splits limit room (suc w) = free_fresh slots splits limit room w
 
 none_split : (splits : List Split) → flat_map attempts_of (map (λ _. Pending) splits) ≡ []
 none_split [] = refl
@@ -56,14 +58,15 @@ is_pending_not_running a other e = false≢true (sym (ap is_pending e))
 is_pending_not_done : (a : Attempt) → Pending ≡ Done a → ⊥
 is_pending_not_done a e = false≢true (sym (ap is_pending e))
 
-holders_at : (slots : List ℕ) (limit : ℕ) (split : Split) → IsSmall split → IsHeldWell (length slots) split →
-    AreHolders (opening_workers slots limit) split.holders
-holders_at slots limit split small held = search (arith, live_fresh)
+holders_at : (slots : List ℕ) (splits limit room : ℕ) (split : Split) → IsSmall split
+    → IsHeldWell (length slots) split → AreHolders (opening_workers slots splits limit room) split.holders
+holders_at slots splits limit room split small held = search (arith, live_fresh)
 
 pub tidy_opening : (setup : Setup) → IsWhole setup.cluster → IsTidy setup (opening setup)
 tidy_opening setup whole = record {
   slots = slots_fresh setup.cluster.slots;
   limit = refl;
+  bars = length-replicate (length setup.cluster.splits) [];
   holders = length-map setup.cluster.splits _;
   splits = length-map setup.cluster.splits _;
   parts = length-replicate setup.cluster.parts part.Pending;
@@ -72,11 +75,12 @@ tidy_opening setup whole = record {
   sweeps = omega arith;
   known = All-nil (IsStartOf setup);
   held = All-map (AreHolders (opening setup).workers) (λ (split : Split). split.holders) setup.cluster.splits
-      (λ k d l. holders_at setup.cluster.slots setup.cluster.silence (slice_index_or setup.cluster.splits k d)
-      (whole.small k d l) (whole.held k d l));
+      (λ k d l. holders_at setup.cluster.slots (length setup.cluster.splits) setup.cluster.silence
+      setup.limits.events (slice_index_or setup.cluster.splits k d) (whole.small k d l) (whole.held k d l));
   within = All-map (IsWithin setup.cluster.silence) fresh setup.cluster.slots
       (λ k d l. record { slots = whole.slots k d l; taken = omega arith; silence = omega arith });
-  taken = λ w. free_fresh setup.cluster.slots setup.cluster.silence w
+  taken = λ w. free_fresh setup.cluster.slots (length setup.cluster.splits) setup.cluster.silence
+      setup.limits.events w
       ∙ sym (ap (count_by (is_on w)) (none_runs setup));
   live = rw (none_runs setup) (All-nil _);
   given = rw (none_runs setup) (All-nil _);

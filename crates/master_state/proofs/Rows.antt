@@ -1,8 +1,9 @@
 -- A wave of two, the late result of a dead worker and its return, and a history that is full.
-use Rattle.std.proofs.Common.{◌≡◌, ℕ, List, [], ◌∷◌, ◌++◌, Some, None, refl, replicate, map, true}
+use Rattle.std.proofs.Common.{◌≡◌, ℕ, List, [], ◌∷◌, ◌++◌, Some, None, refl, map, true}
 use Rattle.word_map.specs.Runs.{MapView}
 use Rattle.wave_problem.specs.Assignment.{total}
 use Rattle.worker_table.specs.Workers.{is_live, is_silent, swept}
+use Rattle.block_map.specs.declared.HolderLimit.TheVariants.{Eight}
 use Rattle.master_state.specs.declared.answers.Why.TheVariants.{OldAttempt, LiveWorker, HistoryFull}
 use Rattle.master_state.specs.declared.states.SplitState.TheVariants.{Running, Pending}
 use Rattle.master_state.specs.declared.states.Limits.{Limits}
@@ -22,6 +23,7 @@ job_with limits = record {
     texts = record { split = 0; documents = [] } ∷ [];
     parts = 1;
     silence = 3;
+    holder_limit = Eight;
   };
   limits = limits;
 }
@@ -33,7 +35,7 @@ abbrev pub made : MapView
 made = record { text = record { split = 0; documents = [] }; parts = 1 }
 
 abbrev pub one_beat : List ℕ
-one_beat = 1 ∷ replicate 255 0
+one_beat = 1 ∷ []
 
 abbrev pub three_sweeps : List Move
 three_sweeps = Start ((0, 0) ∷ []) ∷ Ask (Sweep one_beat) ∷ Ask (Sweep one_beat) ∷ Ask (Sweep one_beat) ∷ []
@@ -44,7 +46,7 @@ silent = three_sweeps ++ Ask (Sweep one_beat) ∷ []
 abbrev pub script : List Move
 script =
     silent
-    ++ Ask (MapDone 1 made) ∷ Ask (Join 0 (1 ∷ [])) ∷ Ask (Join 0 []) ∷ Start ((0, 0) ∷ []) ∷ Ask
+    ++ Ask (MapDone 1 made) ∷ Ask (Join 0 (0 ∷ [])) ∷ Ask (Join 0 []) ∷ Start ((0, 0) ∷ []) ∷ Ask
     (MapDone 1 made) ∷ []
 
 answers_are : answers job script
@@ -61,7 +63,7 @@ lives_still = refl
 dies_now : is_silent (swept (played job three_sweeps).workers one_beat) 0 ≡ true
 dies_now = refl
 
--- of each sweep the count of the one worker is kept
+-- the counts of each sweep are kept
 counts_kept : (played job three_sweeps).sweeps ≡ (1 ∷ []) ∷ (1 ∷ []) ∷ (1 ∷ []) ∷ []
 counts_kept = refl
 
@@ -101,6 +103,7 @@ two_with limits = record {
     texts = record { split = 0; documents = [] } ∷ record { split = 1; documents = [] } ∷ [];
     parts = 1;
     silence = 3;
+    holder_limit = Eight;
   };
   limits = limits;
 }
@@ -140,7 +143,7 @@ in_turn_costs = refl
 abbrev pub small : Setup
 small = two_with (record { events = 1; attempts = 1; sweeps = 0 })
 
-full_answers : answers small (Start wave ∷ Ask (Sweep one_beat) ∷ Ask (Add 0 1) ∷ Ask
+full_answers : answers small (Start wave ∷ Ask (Sweep (1 ∷ 0 ∷ [])) ∷ Ask (Add 0 1) ∷ Ask
     (Lose 0 1) ∷ [])
     ≡ Some HistoryFull ∷ Some HistoryFull ∷ None ∷ Some HistoryFull ∷ []
 full_answers = refl

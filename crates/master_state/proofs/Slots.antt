@@ -25,6 +25,7 @@ nobody = record { live = false; slots = 0; taken = 0; beat = 0; silence = 0 }
 pub record IsFit (setup : Setup) (t : Workers) : Type 0 where
   pub slots : map (λ worker. worker.slots) t.each ≡ setup.cluster.slots
   pub limit : t.limit ≡ setup.cluster.silence
+  pub bars : length t.barred.rows ≡ length setup.cluster.splits
   pub within : All (IsWithin t.limit) t.each
 
 -- a change of one worker that keeps its slots and its bounds
@@ -35,6 +36,7 @@ pub fit_worker : (setup : Setup) (t : Workers) (change : Worker → Worker) (w :
 fit_worker setup t change w fit slots bounds = record {
   slots = map-updated_same (λ worker. worker.slots) change t.each w slots ∙ fit.slots;
   limit = fit.limit;
+  bars = fit.bars;
   within = All-updated (IsWithin t.limit) change t.each w nobody fit.within bounds;
 }
 

@@ -1,19 +1,21 @@
 -- A sweep, and a return, keep a state tidy.
 use Rattle.std.proofs.Common.{◌≡◌, ◌≢◌, ℕ, suc, ◌+◌, ◌<◌, ◌&&◌, List, [], ◌∷◌, ◌++◌, length, map, cond, Bool}
-use Rattle.std.proofs.Common.{true, false, None, refl, ap, ◌∙◌, arith, All}
-use Rattle.std.specs.Prelude.{fold, filter, take}
-use Rattle.std.specs.List.{list_any, enumerate_from, range_with_len}
-use Rattle.std.proofs.lemmas.Bool.{leb-false, or_parts}
+use Rattle.std.proofs.Common.{true, false, None, inl, inr, refl, sym, ap, ◌∙◌, arith, All}
+use Rattle.std.specs.Prelude.{fold}
+use Rattle.std.specs.List.{enumerate_from}
+use Rattle.std.proofs.lemmas.Bool.{cases_eq, eq-eqb, ne_eqb, or_parts}
 use Rattle.std.proofs.lemmas.Grind.{common_steps}
 use Rattle.std.proofs.lemmas.List.{length-append, length-map}
 use Rattle.std.proofs.lemmas.List.Elements.{All-nil, All-cons, All-append, All-weaker}
-use Rattle.node_ids.specs.Sets.{has_number}
-use Rattle.worker_table.specs.Workers.{Workers, is_live, is_silent, swept, with_return}
-use Rattle.block_map.specs.Holdings.{are_eight, with_holder_of_all}
+use Rattle.node_ids.specs.Sets.{is_in_row}
+use Rattle.worker_table.specs.Workers.{Workers, is_live, swept, with_return}
+use Rattle.block_map.specs.Holdings.{are_full, has_full_among, holders_of, with_holder_of_all}
+use Rattle.block_map.specs.declared.HolderLimit.{HolderLimit}
 use Rattle.master_state.specs.States.{Setup, State}
 use Rattle.master_state.specs.Refusals.{Join, Sweep, IsKnown, refusal, reasons}
 use Rattle.master_state.specs.Changes.{died, after}
 use Rattle.master_state.specs.Tidy.{IsTidy, AreHolders}
+use Rattle.master_state.proofs.Holding.{room_more}
 use Rattle.master_state.proofs.Lists.{AllPairs-append}
 use Rattle.master_state.proofs.Slots.{fit_swept, live_swept, taken_swept, fit_return, live_return}
 use Rattle.master_state.proofs.Slots.{live_return_other, taken_return}
@@ -27,7 +29,7 @@ pub tidy_all_died : (setup : Setup) (s : State) (workers : List ℕ) → IsTidy 
 tidy_all_died setup s [] tidy = tidy
 tidy_all_died setup s (w ∷ workers) tidy = tidy_all_died setup (died s w) workers (tidy_died setup s w tidy)
 
-events_all_died : (s : State) (workers : List ℕ) → (fold died s workers).events ≡ s.events
+pub events_all_died : (s : State) (workers : List ℕ) → (fold died s workers).events ≡ s.events
 events_all_died s [] = refl
 events_all_died s (w ∷ workers) = events_all_died (died s w) workers
 
@@ -35,7 +37,7 @@ events_all_died s (w ∷ workers) = events_all_died (died s w) workers
 abbrev pub heard_state : State → List ℕ → State
 heard_state s counts = record s {
   workers = swept s.workers counts;
-  sweeps = s.sweeps ++ take (length s.workers.each) counts ∷ [];
+  sweeps = s.sweeps ++ counts ∷ [];
 }
 
 pub tidy_sweep : (setup : Setup) (s : State) (counts : List ℕ) → IsTidy setup s →
@@ -43,7 +45,6 @@ pub tidy_sweep : (setup : Setup) (s : State) (counts : List ℕ) → IsTidy setu
     IsTidy setup (after s (Sweep counts))
 tidy_sweep setup s counts tidy allowed =
     let table = swept s.workers counts in
-    let dead = filter (is_silent table) (range_with_len 0 (length table.each)) in
     let room = sweep_left setup s (none_applies (reasons setup s (Sweep counts)) allowed).0 in
     let lives : (w : ℕ) → is_live s.workers w ≡ true →
     is_live table w ≡ true = λ w live. live_swept s.workers counts w ∙ live in
@@ -63,7 +64,7 @@ tidy_sweep setup s counts tidy allowed =
 -- the holders of each split of the set with w after them, the first split having the number n
 abbrev returned_from : ℕ → List ℕ → ℕ → List (List ℕ) → List (List ℕ)
 returned_from n set w lists =
-    map (λ place. cond (has_number set place.0) (place.1 ++ w ∷ []) place.1) (enumerate_from n lists)
+    map (λ place. cond (is_in_row set place.0) (place.1 ++ w ∷ []) place.1) (enumerate_from n lists)
 
 length-returned : (n : ℕ) (set : List ℕ) (w : ℕ) (lists : List (List ℕ)) →
     length (returned_from n set w lists) ≡ length lists
@@ -75,16 +76,15 @@ off_dead : (workers : Workers) (w : ℕ) (holders : List ℕ) → is_live worker
     All (λ h. is_live workers h ≡ true) holders → All (λ h. All (λ v. h ≢ v) (w ∷ [])) holders
 off_dead workers w holders dead live = grind arith
 
-held_more : (workers : Workers) (w : ℕ) (holders : List ℕ) → is_live workers w ≡ false →
+held_more : (limit : HolderLimit) (workers : Workers) (w : ℕ) (holders : List ℕ) → is_live workers w ≡ false →
     w < length workers.each →
-    are_eight holders ≡ false → AreHolders workers holders →
+    are_full limit holders ≡ false → AreHolders workers holders →
     AreHolders (with_return workers w) (holders ++ w ∷ [])
-held_more workers w holders dead inside few held =
+held_more limit workers w holders dead inside few held =
+    let room = room_more limit holders w few in
     grind (
       arith,
       common_steps,
-      length-append,
-      leb-false,
       AllPairs-append,
       off_dead,
       All-append,
@@ -99,38 +99,63 @@ held_same : (workers : Workers) (w : ℕ) (holders : List ℕ) → AreHolders wo
     AreHolders (with_return workers w) holders
 held_same workers w holders held = grind (arith, All-weaker, live_return_other)
 
-held_one : (workers : Workers) (w : ℕ) (holders : List ℕ) (inside_set : Bool) → is_live workers w ≡ false →
-    w < length workers.each →
-    (inside_set && are_eight holders) ≡ false → AreHolders workers holders →
-    AreHolders (with_return workers w) (cond inside_set (holders ++ w ∷ []) holders)
-held_one workers w holders true dead inside few held = held_more workers w holders dead inside few held
-held_one workers w holders false dead inside few held = held_same workers w holders held
-
-held_returned : (workers : Workers) (n : ℕ) (set : List ℕ) (w : ℕ) (lists : List (List ℕ)) →
+held_one : (limit : HolderLimit) (workers : Workers) (w : ℕ) (holders : List ℕ) (inside_set : Bool) →
     is_live workers w ≡ false →
     w < length workers.each →
-    list_any (λ place. has_number set place.0 && are_eight place.1) (enumerate_from n lists) ≡ false →
+    (inside_set && are_full limit holders) ≡ false → AreHolders workers holders →
+    AreHolders (with_return workers w) (cond inside_set (holders ++ w ∷ []) holders)
+held_one limit workers w holders true dead inside few held =
+    held_more limit workers w holders dead inside few held
+held_one limit workers w holders false dead inside few held = held_same workers w holders held
+
+-- a split of the set is not full, where none of them is
+not_full : (limit : HolderLimit) (lists : List (List ℕ)) (set : List ℕ) →
+    has_full_among limit lists set ≡ false →
+    (s : ℕ) → (is_in_row set s && are_full limit (holders_of lists s)) ≡ false
+not_full limit lists [] few s = refl
+not_full limit lists (m ∷ set) few s =
+    let parts = or_parts (are_full limit (holders_of lists m)) _ few in
+    let rest = not_full limit lists set parts.1 s in
+    elim (cases_eq m s) [
+      | inl e ↦
+          let free : are_full limit (holders_of lists s) ≡ false =
+          ap (λ t. are_full limit (holders_of lists t)) (sym e) ∙ parts.0 in
+          rw (eq-eqb m s e, free) refl
+      | inr other ↦ rw (ne_eqb m s other) rest
+    ]
+
+held_returned : (limit : HolderLimit) (workers : Workers) (n : ℕ) (set : List ℕ) (w : ℕ)
+    (lists : List (List ℕ)) →
+    is_live workers w ≡ false →
+    w < length workers.each →
+    ((k s : ℕ) → s ≡ n + k → (is_in_row set s && are_full limit (holders_of lists k)) ≡ false) →
     All (AreHolders workers) lists → All (AreHolders (with_return workers w)) (returned_from n set w lists)
-held_returned workers n set w [] dead inside few held = All-nil (AreHolders (with_return workers w))
-held_returned workers n set w (holders ∷ lists) dead inside few held =
-    let parts = or_parts (has_number set n && are_eight holders) _ few in
-    All-cons (AreHolders (with_return workers w)) (cond (has_number set n) (holders ++ w ∷ []) holders)
+held_returned limit workers n set w [] dead inside few held = All-nil (AreHolders (with_return workers w))
+held_returned limit workers n set w (holders ∷ lists) dead inside few held =
+    All-cons (AreHolders (with_return workers w)) (cond (is_in_row set n) (holders ++ w ∷ []) holders)
     (returned_from (n + 1) set w lists)
-    (held_one workers w holders (has_number set n) dead inside parts.0 (held 0 holders (omega arith)))
-    (held_returned workers (n + 1) set w lists dead inside parts.1
+    (held_one limit workers w holders (is_in_row set n) dead inside (few 0 n (omega arith))
+    (held 0 holders (omega arith)))
+    (held_returned limit workers (n + 1) set w lists dead inside (λ k s at. few (suc k) s (omega (arith, at)))
     (λ k d l. held (suc k) d (omega (arith, l))))
 
 pub tidy_join : (setup : Setup) (s : State) (w : ℕ) (set : List ℕ) → IsTidy setup s →
     IsKnown setup (Join w set) →
     refusal setup s (Join w set) ≡ None → IsTidy setup (after s (Join w set))
 tidy_join setup s w set tidy known allowed =
+    let limit = setup.cluster.holder_limit in
     let none = none_applies (reasons setup s (Join w set)) allowed in
     let inside : w < length s.workers.each =
     omega (arith, length-map s.workers.each (λ worker. worker.slots), ap length tidy.slots, known.0) in
+    let few_at : (k split : ℕ) → split ≡ k →
+    (is_in_row set split && are_full limit (holders_of s.holders k)) ≡ false =
+    λ k split at. ap (λ t. is_in_row set split && are_full limit (holders_of s.holders t)) (sym at)
+    ∙ not_full limit s.holders set none.1.0 split in
     tidy_tables setup s (with_return s.workers w) (with_holder_of_all s.holders set w) s.sweeps (s.events + 1)
     tidy
     (fit_return setup s.workers w (fit_of setup s tidy)) (taken_return s.workers w)
     (live_return_other s.workers w)
     (length-returned 0 set w s.holders)
-    (held_returned s.workers 0 set w s.holders none.0 inside none.1.0 tidy.held)
+    (held_returned limit s.workers 0 set w s.holders none.0 inside
+    (λ k split at. few_at k split (omega (arith, at))) tidy.held)
     tidy.sweeps (room_left setup s none.1.1.0)

@@ -38,6 +38,7 @@ pub tidy_made : (setup : Setup) (s : State) → IsFit setup s.workers → HasSiz
 tidy_made setup s fit sizes held taken live starts = record {
   slots = fit.slots;
   limit = fit.limit;
+  bars = fit.bars;
   holders = sizes.holders;
   splits = sizes.splits;
   parts = sizes.parts;
@@ -58,7 +59,12 @@ tidy_made setup s fit sizes held taken live starts = record {
 }
 
 pub fit_of : (setup : Setup) (s : State) → IsTidy setup s → IsFit setup s.workers
-fit_of setup s tidy = record { slots = tidy.slots; limit = tidy.limit; within = tidy.within }
+fit_of setup s tidy = record {
+  slots = tidy.slots;
+  limit = tidy.limit;
+  bars = tidy.bars;
+  within = tidy.within;
+}
 
 -- a state is tidy still with another table of workers and other holders, of which the same is known
 pub tidy_tables : (setup : Setup) (s : State) (workers : Workers) (lists sweeps : List (List ℕ))

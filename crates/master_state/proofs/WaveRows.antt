@@ -9,6 +9,7 @@ use Rattle.price_certificate.specs.declared.Condition.TheVariants as condition
 use Rattle.std.proofs.lemmas.Bool.{false≢true}
 use Rattle.block_map.specs.Copies.{Holdings, IsCopy, WantsCopy, AreCopies, may_hold, IsNoWorse}
 use Rattle.block_map.specs.declared.CopyOrder.{CopyOrder}
+use Rattle.block_map.specs.declared.HolderLimit.TheVariants.{Eight}
 use Rattle.master_state.specs.States.{Setup, State, opening}
 use Rattle.master_state.specs.Refusals.{MapDone, MapFailed, Add}
 use Rattle.master_state.specs.Steps.{problem_of}
@@ -32,6 +33,7 @@ job = record {
     texts = text 0 ∷ text 1 ∷ [];
     parts = 1;
     silence = 3;
+    holder_limit = Eight;
   };
   limits = record { events = 9; attempts = 9; sweeps = 0 };
 }
@@ -105,6 +107,7 @@ racks = record {
     texts = text 0 ∷ [];
     parts = 1;
     silence = 3;
+    holder_limit = Eight;
   };
   limits = record { events = 9; attempts = 9; sweeps = 0 };
 }

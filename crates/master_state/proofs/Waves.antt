@@ -103,7 +103,7 @@ are_starts setup s pairs tidy assigned room = record {
   room = room;
 }
 
-events_all_started : (s : State) (pairs : List (ℕ × ℕ)) → (all_started s pairs).events ≡ s.events
+pub events_all_started : (s : State) (pairs : List (ℕ × ℕ)) → (all_started s pairs).events ≡ s.events
 events_all_started s [] = refl
 events_all_started s ((k, v) ∷ pairs) = events_all_started (split_started s k v) pairs
 

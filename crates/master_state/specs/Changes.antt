@@ -1,11 +1,10 @@
 -- What each event makes of a state.
-use Rattle.std.specs.Prelude.{ℕ, ◌+◌, ◌&&◌, Bool, not, if◌then◌else◌, List, [], ◌∷◌, ◌++◌, length, map}
-use Rattle.std.specs.Prelude.{filter, fold, find, take}
-use Rattle.std.specs.List.{range_with_len}
+use Rattle.std.specs.Prelude.{ℕ, ◌+◌, ◌&&◌, Bool, not, if◌then◌else◌, List, [], ◌∷◌, ◌++◌, map}
+use Rattle.std.specs.Prelude.{filter, fold, find}
 use Rattle.std.specs.Option.{option_map_or}
 use Rattle.node_ids.specs.Updates.{updated}
 use Rattle.worker_table.specs.Workers.{with_slot_taken, with_slot_given, with_death, with_return, with_bar}
-use Rattle.worker_table.specs.Workers.{swept, is_silent}
+use Rattle.worker_table.specs.Workers.{swept, silent_in}
 use Rattle.block_map.specs.Holdings.{with_holder, with_holder_of_all, without_holder, without_worker}
 use Rattle.master_state.specs.declared.states.Attempt.{Attempt}
 use Rattle.master_state.specs.declared.states.Work.{Work}
@@ -91,13 +90,11 @@ with_map_failed s a =
     let left = without_attempt s a in
     record left { workers = with_bar left.workers (split_running s a) (worker_of s a) }
 
--- Beats and silences change by the counts, and the counts of the job's workers are kept. Then each worker dies
--- that was silent too long.
+-- Beats and silences change by the counts, which are kept. Then each worker dies that was silent too long.
 abbrev pub with_sweep : State → List ℕ → State
 with_sweep s counts =
     let table = swept s.workers counts in
-    fold died (record s { workers = table; sweeps = s.sweeps ++ take (length s.workers.each) counts ∷ [] })
-    (filter (is_silent table) (range_with_len 0 (length table.each)))
+    fold died (record s { workers = table; sweeps = s.sweeps ++ counts ∷ [] }) (silent_in table)
 
 -- the lowest pending part runs the next attempt on the lowest live worker with a free slot
 abbrev pub with_reduce_started : State → State

@@ -1,8 +1,7 @@
 -- What a caller sees of a master, and what an answer of it promises.
-use Rattle.std.specs.Prelude.{ℕ, ◌≡◌, ◌+◌, ◌⊎◌, ◌↔◌, Bool, true, false, not, if◌then◌else◌, IsTrue, List, []}
+use Rattle.std.specs.Prelude.{ℕ, ◌≡◌, ◌+◌, ◌≤◌, ◌⊎◌, ◌↔◌, Bool, true, false, not, if◌then◌else◌, IsTrue, List, []}
 use Rattle.std.specs.Prelude.{◌∷◌, ◌++◌, length, All, count_by, Option, Some, None, Ok, Err}
 use Rattle.std.specs.declared.result.Result.{Result}
-use Rattle.node_ids.specs.Sets.{has_number}
 use Rattle.wave_problem.specs.Wave.{IsAdmissible}
 use Rattle.wave_problem.specs.Assignment.{IsBest, pairs_of}
 use Rattle.price_certificate.specs.Certificate.{Claim, Certifies, IsFirstFailure, claim}
@@ -10,7 +9,7 @@ use Rattle.price_certificate.specs.PriceList.{PriceList}
 use Rattle.shuffle_reduce.specs.Merged.{PartView, AreSameTexts, IsPartOf}
 use Rattle.shuffle_reduce.specs.Gather.{AreOfPart, texts_of_runs}
 use Rattle.shuffle_reduce.specs.Indexed.{count_of}
-use Rattle.worker_table.specs.Workers.{swept, is_silent}
+use Rattle.worker_table.specs.Workers.{swept, silent_in}
 use Rattle.master_state.specs.declared.answers.Answer.{Answer}
 use Rattle.master_state.specs.declared.answers.Answer.TheVariants.{Accepted, Ignored}
 use Rattle.master_state.specs.declared.answers.Reply.{Reply}
@@ -116,16 +115,16 @@ AnswersReduce old (Ignored why back) new =
     IsIgnored old ReduceStart why new
     ⊎ ((why ≡ Memory) × (refusal old.setup old.state ReduceStart ≡ None) × (new ≡ old))
 
--- whether the worker died in a sweep that was answered so
-abbrev pub died_in : Job → List ℕ → Plain → ℕ → Bool
-died_in old counts (Accepted place told) w = is_silent (swept old.state.workers counts) w
-died_in old counts (Ignored why back) w = false
+-- who died in a sweep that was answered so, by number
+abbrev pub died_in : Job → List ℕ → Plain → List ℕ
+died_in old counts (Accepted place told) = silent_in (swept old.state.workers counts)
+died_in old counts (Ignored why back) = []
 
--- the answer to a sweep, and the set of those that died
+-- the answer to a sweep, and the list of the workers that died in it
 pub record AnswersSweep (old : Job) (counts : List ℕ) (given : Plain) (dead : List ℕ) (new : Job)
     : Type 0 where
   pub answer : Answers old (Sweep counts) given new
-  pub dead_are : (w : ℕ) → has_number dead w ≡ died_in old counts given w
+  pub dead_are : dead ≡ died_in old counts given
 
 -- the plan was committed as a wave, best in the state that it changed
 pub record IsCommitted (old : Job) (plan : List (Option ℕ)) (wave : Wave) (new : Job) : Type 0 where
@@ -179,10 +178,15 @@ pub record AreResults (setup : Setup) (s : State) (results : List PartView) : Ty
   pub each : All (IsResult setup) results
   pub one_each : (r : ℕ) → count_of results r ≡ (if part_is_done (part_at s r) then 1 else 0)
 
+-- for each event that may still come there is room for one bar
+abbrev pub HasBarRoom : Setup → State → Type 0
+HasBarRoom setup s = setup.limits.events ≤ s.workers.barred.room + s.events
+
 -- what every master keeps
 pub record IsKept (job : Job) : Type 0 where
   pub whole : IsWhole job.setup.cluster
   pub small : AreAllowed job.setup.limits
   pub legal : IsLegal job.setup job.history job.state
   pub tidy : IsTidy job.setup job.state
+  pub bars : HasBarRoom job.setup job.state
   pub results : AreResults job.setup job.state job.results

@@ -1,16 +1,15 @@
 -- The calls of the master, and for each the reasons to ignore it, in the order in which they are tested.
-use Rattle.std.specs.Prelude.{ℕ, ◌+◌, ◌<◌, ◌==◌, ◌&&◌, ◌||◌, nat_le, nat_lt, Bool, false, not, if◌then◌else◌}
-use Rattle.std.specs.Prelude.{List, [], ◌∷◌, length, Option, Some, None, slice_index_or}
+use Rattle.std.specs.Prelude.{ℕ, ◌≡◌, ◌+◌, ◌<◌, ◌==◌, ◌&&◌, ◌||◌, nat_le, nat_lt, Bool, false, not}
+use Rattle.std.specs.Prelude.{if◌then◌else◌, All, List, [], ◌∷◌, length, Option, Some, None, slice_index_or}
 use Rattle.std.specs.List.{list_any, list_all}
-use Rattle.node_ids.specs.Sets.{Has}
 use Rattle.word_map.specs.Texts.{SplitDocuments, same_text}
 use Rattle.word_map.specs.Runs.{MapView}
 use Rattle.shuffle_reduce.specs.Merged.{IsPartOf, PartView, same_texts}
 use Rattle.worker_table.specs.Workers.{is_live, is_barred, has_free_slot, worker_at}
-use Rattle.block_map.specs.Holdings.{holders_of, is_holder, are_eight, has_eight_among}
+use Rattle.block_map.specs.Holdings.{holders_of, is_holder, are_full, has_full_among}
 use Rattle.master_state.specs.declared.answers.Why.{Why}
 use Rattle.master_state.specs.declared.answers.Why.TheVariants.{OldAttempt, DeadWorker, LiveWorker}
-use Rattle.master_state.specs.declared.answers.Why.TheVariants.{AlreadyHolds, NotHolder, EightHolders}
+use Rattle.master_state.specs.declared.answers.Why.TheVariants.{AlreadyHolds, NotHolder, ManyHolders}
 use Rattle.master_state.specs.declared.answers.Why.TheVariants.{NotReady, WrongInput, HistoryFull, NoBackup}
 use Rattle.master_state.specs.declared.answers.Why.TheVariants.{Barred}
 use Rattle.master_state.specs.declared.states.SplitState.{SplitState}
@@ -38,15 +37,16 @@ pub data Call : Type 0 where
 abbrev pub IsPair : Setup → ℕ → ℕ → Type 0
 IsPair setup split w = (split < length setup.cluster.splits) × (w < length setup.cluster.slots)
 
--- what a call asks for: its splits and workers are those of the cluster, and what was merged for a part has the
--- pairs of its texts for that part
+-- what a call asks for: the cluster has its splits and workers, a sweep has a count for each worker,
+-- and what was merged for a part has the pairs of its texts for that part
 abbrev pub IsKnown : Setup → Call → Type 0
 IsKnown setup (Die w) = w < length setup.cluster.slots
 IsKnown setup (Join w set) =
-    (w < length setup.cluster.slots) × ((split : ℕ) → Has set split → split < length setup.cluster.splits)
+    (w < length setup.cluster.slots) × All (λ split. split < length setup.cluster.splits) set
 IsKnown setup (Add split w) = IsPair setup split w
 IsKnown setup (Lose split w) = IsPair setup split w
 IsKnown setup (Backup split w) = IsPair setup split w
+IsKnown setup (Sweep counts) = length counts ≡ length setup.cluster.slots
 IsKnown setup (PartDone a result) = IsPartOf result.texts result.part result.parts result.pairs
 IsKnown setup call = Unit {0}
 
@@ -113,12 +113,12 @@ reasons setup s (Withdraw a) =
 reasons setup s (Die w) = (not (is_live s.workers w), DeadWorker) ∷ (is_full setup s, HistoryFull) ∷ []
 reasons setup s (Join w set) =
     (is_live s.workers w, LiveWorker)
-    ∷ (has_eight_among s.holders set, EightHolders)
+    ∷ (has_full_among setup.cluster.holder_limit s.holders set, ManyHolders)
     ∷ (is_full setup s, HistoryFull) ∷ []
 reasons setup s (Add split w) =
     (not (is_live s.workers w), DeadWorker)
     ∷ (is_holder s.holders split w, AlreadyHolds)
-    ∷ (are_eight (holders_of s.holders split), EightHolders)
+    ∷ (are_full setup.cluster.holder_limit (holders_of s.holders split), ManyHolders)
     ∷ (is_full setup s, HistoryFull) ∷ []
 reasons setup s (Lose split w) =
     (not (is_holder s.holders split w), NotHolder) ∷ (is_full setup s, HistoryFull) ∷ []

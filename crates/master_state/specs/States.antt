@@ -7,6 +7,7 @@ use Rattle.rack_tree.specs.Tree.{Tree}
 use Rattle.rack_tree.specs.View as tree
 use Rattle.wave_problem.specs.declared.TheConstants.{MAX_SLOTS}
 use Rattle.wave_problem.specs.Wave.{Split, IsSmall, AreHeldWell}
+use Rattle.block_map.specs.declared.HolderLimit.{HolderLimit}
 use Rattle.word_map.specs.Texts.{SplitDocuments}
 use Rattle.worker_table.specs.Workers.{Workers, opening_workers}
 use Rattle.master_state.specs.declared.TheConstants.{MAX_JOB_SPLITS, MAX_JOB_WORKERS}
@@ -25,6 +26,7 @@ pub record Cluster : Type 0 where
   pub texts : List SplitDocuments  -- of each split
   pub parts : ℕ  -- how many there are
   pub silence : ℕ  -- the sweeps without a new beat after which a worker is dead
+  pub holder_limit : HolderLimit  -- to how many holders a split may grow
 
 -- what no call changes
 pub record Setup : Type 0 where
@@ -44,7 +46,8 @@ pub record State : Type 0 where
 -- all workers live, all splits and parts pending, nothing barred
 abbrev pub opening : Setup → State
 opening setup = record {
-  workers = opening_workers setup.cluster.slots setup.cluster.silence;
+  workers = opening_workers setup.cluster.slots (length setup.cluster.splits) setup.cluster.silence
+      setup.limits.events;
   holders = map (λ split. split.holders) setup.cluster.splits;
   splits = map (λ _. Pending) setup.cluster.splits;
   parts = replicate setup.cluster.parts part.Pending;
@@ -83,6 +86,6 @@ pub record IsWhole (c : Cluster) : Type 0 where
 
 -- the rooms that a master may have
 pub record AreAllowed (limits : Limits) : Type 0 where
-  pub events : limits.events ≤ 65536
+  pub events : limits.events ≤ 1048576
   pub attempts : limits.attempts ≤ 1000000
   pub sweeps : limits.sweeps ≤ limits.events

@@ -1,6 +1,5 @@
 -- The problem of a state, the step of each event, and the histories that the machine may have.
 use Rattle.std.specs.Prelude.{ℕ, ◌≡◌, ◌+◌, ◌-◌, false, List, [], ◌∷◌, length, map, zip, Option, None}
-use Rattle.node_ids.specs.Sets.{marked_rows}
 use Rattle.word_map.specs.Runs.{MapView}
 use Rattle.shuffle_reduce.specs.Merged.{PartView}
 use Rattle.wave_problem.specs.declared.lines.WorkerLine.{WorkerLine}
@@ -32,7 +31,7 @@ problem_of setup s =
     wave_from setup.cluster.tree
     (map worker_line s.workers.each)
     (map (λ line. split_line line.0.0 line.0.1 line.1) (zip (zip setup.cluster.splits s.splits) s.holders))
-    (marked_rows s.workers.barred (length setup.cluster.splits) (length setup.cluster.slots))
+    s.workers.barred.rows
 
 -- some prices certify the plan in this state
 abbrev pub HasPrices : Setup → State → List (Option ℕ) → Type 0

@@ -1,5 +1,6 @@
 -- What every state keeps that a legal history leads to.
 use Rattle.std.specs.Prelude.{ℕ, ◌≡◌, ◌≢◌, ◌<◌, ◌≤◌, true, List, length, map, All, AllPairs, Some, count_by}
+use Rattle.wave_problem.specs.declared.TheConstants.{MAX_HOLDERS}
 use Rattle.worker_table.specs.Workers.{Workers, IsWithin, is_live, taken_slots}
 use Rattle.master_state.specs.declared.states.Attempt.{Attempt}
 use Rattle.master_state.specs.declared.states.Start.{Start}
@@ -9,9 +10,9 @@ use Rattle.master_state.specs.declared.states.SplitState.TheVariants.{Running, D
 use Rattle.master_state.specs.States.{Setup, State, next_attempt, start_of}
 use Rattle.master_state.specs.Tests.{is_on, attempts_of, part_attempts, all_running, split_at, part_at}
 
--- at most eight live workers, each once
+-- few live workers, each once
 pub record AreHolders (workers : Workers) (holders : List ℕ) : Type 0 where
-  pub few : length holders ≤ 8
+  pub few : length holders ≤ MAX_HOLDERS
   pub once : AllPairs (λ a b. a ≢ b) holders
   pub live : All (λ h. is_live workers h ≡ true) holders
 
@@ -33,6 +34,7 @@ pub record IsTidy (setup : Setup) (s : State) : Type 0 where
   -- the sizes are those of the cluster, and no room is passed
   pub slots : map (λ worker. worker.slots) s.workers.each ≡ setup.cluster.slots
   pub limit : s.workers.limit ≡ setup.cluster.silence
+  pub bars : length s.workers.barred.rows ≡ length setup.cluster.splits
   pub holders : length s.holders ≡ length setup.cluster.splits
   pub splits : length s.splits ≡ length setup.cluster.splits
   pub parts : length s.parts ≡ setup.cluster.parts

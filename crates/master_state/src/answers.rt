@@ -1,7 +1,7 @@
 ghost use Rattle.std.specs.Prelude.{◌≡◌};
 ghost use Rattle.master_state.specs.Jobs.{plain};
 
-use node_ids::{AttemptNo, PartNo, WorkerNo, WorkerSet};
+use node_ids::{AttemptNo, PartNo, WorkerNo};
 use price_certificate::Condition;
 use std::sync::Arc;
 use word_map::Run;
@@ -15,7 +15,8 @@ pub enum Why {
     LiveWorker = 3,
     AlreadyHolds = 4,
     NotHolder = 5,
-    EightHolders = 6,
+    /// The split, or a split of the join, has as many holders as the limit allows, or more.
+    ManyHolders = 6,
     /// A reduce attempt, or a backup, may not start now.
     NotReady = 7,
     /// The result is of another text, part or number of parts.
@@ -50,13 +51,6 @@ impl<T, B> Answer<T, B> {
             Answer::Ignored(why, _) => Answer::Ignored(*why, ()),
         }
     }
-}
-
-/// The answer to a sweep, and who died.
-#[derive(Clone, Copy)]
-pub struct Swept {
-    pub answer: Answer,
-    pub dead: WorkerSet,
 }
 
 /// A reduce attempt with all that its worker needs.

@@ -11,12 +11,12 @@ pub mod events;
 pub mod laws;
 pub mod states;
 
-pub use answers::{Answer, CommitError, Glance, Reply, Swept, Wave, Why};
+pub use answers::{Answer, CommitError, Glance, Reply, Wave, Why};
 pub use events::Event;
 pub use states::{Attempt, Limits, PartState, SplitState, Start, Work};
 
 /// How many splits a job has at most.
-pub const MAX_JOB_SPLITS: usize = 1024;
+pub const MAX_JOB_SPLITS: usize = 131_072;
 
 /// How many workers a job has at most.
-pub const MAX_JOB_WORKERS: usize = 256;
+pub const MAX_JOB_WORKERS: usize = 32_768;

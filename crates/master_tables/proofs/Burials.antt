@@ -3,8 +3,9 @@ use Rattle.std.proofs.Common.{◌≡◌, ℕ, List, [], ◌∷◌, map, cond, no
 use Rattle.std.proofs.Common.{◌&&◌, ◌==◌, None, Some, refl, ap, sym, ◌∙◌, arith}
 use Rattle.std.specs.Prelude.{filter, fold}
 use Rattle.std.specs.List.{list_all}
-use Rattle.std.proofs.lemmas.Bool.{and_right}
+use Rattle.std.proofs.lemmas.Bool.{and_right, cases_eq, eq-eqb, ne_eqb}
 use Rattle.worker_table.specs.Workers.{Workers, with_death}
+use Rattle.node_ids.specs.Sets.{is_in_row}
 use Rattle.block_map.specs.Holdings.{without}
 use Rattle.master_state.specs.declared.states.Attempt.{Attempt}
 use Rattle.master_state.specs.declared.states.SplitState.{SplitState}
@@ -18,7 +19,6 @@ use Rattle.master_state.proofs.Keeping.{done_without}
 use Rattle.master_tables.specs.declared.entries.SplitEntry.{SplitEntry}
 use Rattle.master_tables.specs.Entries.{entry_after_death, shown_as}
 use Rattle.master_tables.specs.Kept.{AreOfSplits}
-use Rattle.master_tables.proofs.Among.{among}
 use Rattle.master_tables.proofs.Showing.{after_deaths, death_makes_none, made_mapped, shown-deaths}
 use Rattle.master_tables.proofs.Together.{filter-both, filter-none, map-both, map-nothing}
 
@@ -115,17 +115,22 @@ died_before s w dead later test same =
     (λ attempt. same attempt.worker)) s.parts in
     (λ k. with_tables s (fold with_death s.workers (w ∷ dead)) (holders k) (splits k) (parts k))
 
+pub turned_round : (w v : ℕ) → (w == v) ≡ (v == w)
+turned_round w v = grind (arith, cases_eq, eq-eqb, ne_eqb)
+
 -- deaths one after another change each table once
-pub all_died : (s : State) (dead : List ℕ) (test : ℕ → Bool) → ((w : ℕ) → test w ≡ among dead w) →
+pub all_died : (s : State) (dead : List ℕ) (test : ℕ → Bool) → ((w : ℕ) → test w ≡ is_in_row dead w) →
     fold died s dead ≡ buried s test dead
 all_died s [] test none = grind (arith, map-nothing, filter-none, after_deaths, spares, spares_part)
 all_died s (w ∷ dead) test same =
-    all_died (died s w) dead (among dead) (λ v. refl) ∙ died_before s w dead (among dead) test same
+    all_died (died s w) dead (is_in_row dead) (λ v. refl)
+    ∙ died_before s w dead (is_in_row dead) test
+    (λ v. same v ∙ ap (λ b. b || is_in_row dead v) (turned_round w v))
 
 -- the tables that a state has after deaths, by what became of those that a master keeps
 pub buried_is : (s : State) (dead : List ℕ) (test : ℕ → Bool) (old : List SplitEntry) {t left : Workers}
     {held lists : List (List ℕ)} {new : List SplitEntry} {had parts : List PartState} →
-    ((w : ℕ) → test w ≡ among dead w) → s.workers ≡ t → s.holders ≡ held → s.splits ≡ map shown_as old →
+    ((w : ℕ) → test w ≡ is_in_row dead w) → s.workers ≡ t → s.holders ≡ held → s.splits ≡ map shown_as old →
     s.parts ≡ had → left ≡ fold with_death t dead → lists ≡ map (filter (λ h. not (test h))) held →
     new ≡ map (entry_after_death (list_all part_is_done had) (λ attempt. test attempt.worker)) old →
     parts ≡ map (part_without (λ attempt. test attempt.worker)) had →

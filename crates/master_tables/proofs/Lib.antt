@@ -1,7 +1,7 @@
 pub mod Together
-pub mod Among
 pub mod Showing
 pub mod Counting
 pub mod Burials
 pub mod WaveLines
 pub mod Starts
+pub mod Startable

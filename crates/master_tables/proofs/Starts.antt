@@ -5,6 +5,7 @@ use Rattle.std.specs.Prelude.{slice_index_or}
 use Rattle.std.proofs.lemmas.Grind.{common_steps}
 use Rattle.node_ids.specs.Updates.{updated}
 use Rattle.worker_table.specs.Workers.{Workers, free_slots, with_slot_taken}
+use Rattle.block_map.specs.declared.HolderLimit.TheVariants.{Eight}
 use Rattle.master_state.specs.declared.states.Start.{Start}
 use Rattle.master_state.specs.declared.states.Work.TheVariants as works
 use Rattle.master_state.specs.declared.states.SplitState.{SplitState}
@@ -40,6 +41,7 @@ setup_with attempts = record {
     texts = [];
     parts = 0;
     silence = 0;
+    holder_limit = Eight;
   };
   limits = record { events = 0; attempts = attempts; sweeps = 0 };
 }

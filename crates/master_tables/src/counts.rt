@@ -1,4 +1,4 @@
-ghost use Rattle.std.specs.Prelude.{◌≡◌, ◌≤◌, ◌*◌, length, map, not, count_by, flat_map};
+ghost use Rattle.std.specs.Prelude.{◌≡◌, ◌≤◌, length, map, not, count_by, flat_map};
 ghost use Rattle.master_state.specs.Tests.{attempts_of, is_done, part_attempts, part_is_done};
 ghost use Rattle.master_tables.specs.Entries.{shown_as};
 
@@ -8,9 +8,9 @@ use master_state::PartState;
 
 /// How many attempts of splits run.
 pub fn running_maps(entries: &[SplitEntry]) -> u32
-    requires { length entries.now ≤ 1024 }
+    requires { length entries.now ≤ 131072 }
     ensures count { result ≡ length (flat_map attempts_of (map shown_as entries.now)) }
-    ensures most { result ≤ 2048 }
+    ensures most { result ≤ 262144 }
 {
     let mut count = 0;
     for entry in entries {
@@ -48,7 +48,7 @@ pub fn running_parts(parts: &[PartState]) -> u32
 
 /// How many splits are not done.
 pub fn open_splits(entries: &[SplitEntry]) -> u32
-    requires { length entries.now ≤ 1024 }
+    requires { length entries.now ≤ 131072 }
     ensures { result ≡ count_by (λ split. not (is_done split)) (map shown_as entries.now) }
 {
     let mut count = 0;

@@ -1,24 +1,24 @@
-ghost use Rattle.std.specs.Prelude.{◌≡◌, ℕ, ◌<◌, ◌==◌, length, map, filter, find, fold};
-ghost use Rattle.std.specs.List.{list_all, list_any, range_with_len};
+ghost use Rattle.std.specs.Prelude.{◌≡◌, ◌<◌, All, length, map, find, fold};
+ghost use Rattle.std.specs.List.{list_all};
 ghost use Rattle.std.specs.Option.{option_map_or};
-ghost use Rattle.node_ids.specs.Sets.{has_number};
+ghost use Rattle.node_ids.specs.Sets.{is_in_row};
 ghost use Rattle.node_ids.specs.Updates.{updated};
 ghost use Rattle.worker_table.specs.Workers.{with_death};
 ghost use Rattle.master_state.specs.States.{Setup, State};
 ghost use Rattle.master_state.specs.Tests.{part_is_done};
 ghost use Rattle.master_state.specs.Changes.{died, part_without};
-ghost use Rattle.master_tables.specs.Ends.{ends, has_worker, without_all};
+ghost use Rattle.master_tables.specs.Ends.{ends, without_all};
 ghost use Rattle.master_tables.specs.Entries.{entry_after_death, shown_as};
 ghost use Rattle.master_tables.specs.Kept.{AreOfSplits};
 
 use crate::entries::SplitEntry;
 use crate::holders::drop_holder;
 use crate::parts::are_parts_done;
-use crate::running::{Ending, ends, has_worker, part_without_ended, without_ended};
+use crate::running::{Ending, ends, part_without_ended, without_ended};
 use block_map::BlockMap;
 use master_state::PartState;
-use node_ids::{SplitNo, WorkerNo, WorkerSet};
-use worker_table::WorkerTable;
+use node_ids::{SplitNo, WorkerNo};
+use worker_table::{Dead, DeadList, WorkerTable};
 
 /// A worker of the table dies: it holds nothing then, and what it ran, and had made, is pending.
 pub fn bury(
@@ -44,18 +44,19 @@ pub fn bury(
     end_all(splits, parts, &Ending::On(worker));
 }
 
-/// Each worker of the table that is in the set dies, one after another. Where none does, no split is
-/// looked at, and else each split once.
+/// Each worker of the list dies, one after another. Where none does, no split is looked at, and else each
+/// split once.
 pub fn bury_all(
     workers: &mut WorkerTable,
     holders: &mut BlockMap,
     splits: &mut Vec<SplitEntry>,
     parts: &mut Vec<PartState>,
-    dead: &WorkerSet,
+    dead: &DeadList,
 )
+    requires { All (λ w. w < length workers.old.each) dead.now.items }
     ensures died { (s : State) → s.workers ≡ workers.old → s.holders ≡ holders.old
         → s.splits ≡ map shown_as splits.old.items → s.parts ≡ parts.old.items
-        → fold died s (filter (has_number dead.now) (range_with_len 0 (length workers.old.each))) ≡ record s {
+        → fold died s dead.now.items ≡ record s {
           workers = workers.new;
           holders = holders.new;
           splits = map shown_as splits.new.items;
@@ -66,33 +67,24 @@ pub fn bury_all(
     if dead.is_empty() {
         return;
     }
-    let buried = bury_each(workers, dead);
-    drop_all(holders, &buried);
-    end_all(splits, parts, &Ending::Among(buried));
+    bury_each(workers, dead.as_slice());
+    let those = dead.dead();
+    drop_all(holders, &those);
+    end_all(splits, parts, &Ending::Among(those));
 }
 
-// Marks each worker of the table dead that is in the set, and answers with those.
-fn bury_each(workers: &mut WorkerTable, dead: &WorkerSet) -> WorkerSet
-    ensures died { workers.new ≡ fold with_death workers.old
-        (filter (has_number dead.now) (range_with_len 0 (length workers.old.each))) }
-    ensures those { (w : ℕ) → has_worker result w
-        ≡ list_any (λ other. w == other)
-        (filter (has_number dead.now) (range_with_len 0 (length workers.old.each))) }
+// Marks each worker of the list dead.
+fn bury_each(workers: &mut WorkerTable, dead: &[WorkerNo])
+    requires { All (λ w. w < length workers.old.each) dead.now }
+    ensures { workers.new ≡ fold with_death workers.old dead.now }
 {
-    let mut buried = WorkerSet::new();
-    let count = workers.workers().len();
-    for i in 0..count {
-        let worker = WorkerNo::new(i as u16);
-        if dead.has(worker) {
-            workers.die(worker);
-            buried.put(worker);
-        }
+    for worker in dead {
+        workers.die(*worker);
     }
-    buried
 }
 
-// The workers of the set hold nothing.
-fn drop_all(holders: &mut BlockMap, dead: &WorkerSet)
+// The workers of the list hold nothing.
+fn drop_all(holders: &mut BlockMap, dead: &Dead<'_>)
     ensures { holders.new ≡ map (without_all dead.now) holders.old }
 {
     for i in 0..holders.splits() {
@@ -100,8 +92,8 @@ fn drop_all(holders: &mut BlockMap, dead: &WorkerSet)
     }
 }
 
-// The workers of the set do not hold the split.
-fn drop_from(holders: &mut BlockMap, split: SplitNo, dead: &WorkerSet)
+// The workers of the list do not hold the split.
+fn drop_from(holders: &mut BlockMap, split: SplitNo, dead: &Dead<'_>)
     requires { split < length holders.old }
     ensures { holders.new ≡ updated (without_all dead.now) holders.old split }
 {
@@ -113,17 +105,14 @@ fn drop_from(holders: &mut BlockMap, split: SplitNo, dead: &WorkerSet)
     }
 }
 
-fn first_among(holders: &[WorkerNo], dead: &WorkerSet) -> Option<WorkerNo>
-    ensures { result ≡ find (has_worker dead.now) holders.now }
+fn first_among(holders: &[WorkerNo], dead: &Dead<'_>) -> Option<WorkerNo>
+    ensures { result ≡ find (is_in_row dead.now) holders.now }
 {
-    holders
-        .iter()
-        .copied()
-        .find(|holder| has_worker(dead, *holder))
+    holders.iter().copied().find(|holder| dead.has(*holder))
 }
 
 // The attempts end, and a split that one of them has done is pending, unless every part is done.
-fn end_all(splits: &mut Vec<SplitEntry>, parts: &mut Vec<PartState>, ending: &Ending)
+fn end_all(splits: &mut Vec<SplitEntry>, parts: &mut Vec<PartState>, ending: &Ending<'_>)
     ensures splits { splits.new.items
         ≡ map (entry_after_death (list_all part_is_done parts.old.items) (ends ending.now)) splits.old.items }
     ensures parts { parts.new.items ≡ map (part_without (ends ending.now)) parts.old.items }
@@ -133,7 +122,7 @@ fn end_all(splits: &mut Vec<SplitEntry>, parts: &mut Vec<PartState>, ending: &En
     lose_parts(parts, ending);
 }
 
-fn lose_entries(entries: &mut Vec<SplitEntry>, stays: bool, ending: &Ending)
+fn lose_entries(entries: &mut Vec<SplitEntry>, stays: bool, ending: &Ending<'_>)
     ensures { entries.new.items ≡ map (entry_after_death stays (ends ending.now)) entries.old.items }
 {
     for entry in entries.iter_mut() {
@@ -141,7 +130,7 @@ fn lose_entries(entries: &mut Vec<SplitEntry>, stays: bool, ending: &Ending)
     }
 }
 
-fn lose_entry(entry: &mut SplitEntry, stays: bool, ending: &Ending)
+fn lose_entry(entry: &mut SplitEntry, stays: bool, ending: &Ending<'_>)
     ensures { entry.new ≡ entry_after_death stays (ends ending.now) entry.old }
 {
     if let Some(next) = changed_entry(entry, stays, ending) {
@@ -150,7 +139,7 @@ fn lose_entry(entry: &mut SplitEntry, stays: bool, ending: &Ending)
 }
 
 // What the entry becomes, where it does not stay.
-fn changed_entry(entry: &SplitEntry, stays: bool, ending: &Ending) -> Option<SplitEntry>
+fn changed_entry(entry: &SplitEntry, stays: bool, ending: &Ending<'_>) -> Option<SplitEntry>
     ensures { option_map_or (λ next. next) result entry.now
         ≡ entry_after_death stays (ends ending.now) entry.now }
 {
@@ -167,7 +156,7 @@ fn changed_entry(entry: &SplitEntry, stays: bool, ending: &Ending) -> Option<Spl
     }
 }
 
-fn lose_parts(parts: &mut Vec<PartState>, ending: &Ending)
+fn lose_parts(parts: &mut Vec<PartState>, ending: &Ending<'_>)
     ensures { parts.new.items ≡ map (part_without (ends ending.now)) parts.old.items }
 {
     for part in parts.iter_mut() {

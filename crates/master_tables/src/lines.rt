@@ -1,16 +1,16 @@
-ghost use Rattle.std.specs.Prelude.{◌≡◌, ℕ, ◌<◌, ◌≤◌, ◌↔◌, length, map, take, All, IfOk, IsTrue};
-ghost use Rattle.node_ids.specs.Sets.{marked_rows};
-ghost use Rattle.wave_problem.specs.Wave.{IsAdmissible, Wave};
+ghost use Rattle.std.specs.Prelude.{◌≡◌, ℕ, ◌^◌, ◌<◌, ◌≤◌, ◌↔◌, List, length, map, All, IfOk, IsTrue};
+ghost use Rattle.wave_problem.specs.Wave.{IsAdmissible, Split, Wave};
 ghost use Rattle.master_state.specs.Steps.{split_line, worker_line};
 ghost use Rattle.master_tables.specs.Entries.{shown_as};
-ghost use Rattle.master_tables.specs.Lines.{split_lines};
+ghost use Rattle.master_tables.specs.Lines.{is_open, split_lines, Takes};
 
+use crate::backups::{has_free_slot, is_any_live};
 use crate::entries::SplitEntry;
 use block_map::BlockMap;
-use node_ids::{PairTable, SplitNo, WorkerNo};
+use node_ids::{SplitNo, WorkerNo};
 use std::alloc::{AllocError, Global};
-use wave_problem::{SplitLine, SplitRef, WorkerLine, free_workers, may_start};
-use worker_table::Worker;
+use wave_problem::{SplitLine, SplitRef, WorkerLine};
+use worker_table::{Worker, WorkerTable};
 
 /// A line for each worker of a table, as a wave sees it.
 pub fn worker_lines(alloc: Global, workers: &[Worker]) -> Result<Vec<WorkerLine>, AllocError>
@@ -22,22 +22,6 @@ pub fn worker_lines(alloc: Global, workers: &[Worker]) -> Result<Vec<WorkerLine>
         lines.push_reserved(line_of(worker));
     }
     Ok(lines)
-}
-
-/// The same in a table of fixed size, which takes no memory.
-pub fn worker_line_table(workers: &[Worker]) -> [WorkerLine; 256]
-    requires within { All (λ worker. worker.taken ≤ worker.slots) workers.now }
-    requires few { length workers.now ≤ 256 }
-    ensures { take (length workers.now) result ≡ map worker_line workers.now }
-{
-    let mut lines = [WorkerLine {
-        live: false,
-        free: 0,
-    }; 256];
-    for i in 0..workers.len() {
-        lines[i] = line_of(&workers[i]);
-    }
-    lines
 }
 
 fn line_of(worker: &Worker) -> WorkerLine
@@ -59,7 +43,7 @@ pub fn all_split_lines<'h>(
 ) -> Result<Vec<SplitRef<'h>>, AllocError>
     requires entries { length entries.now ≡ length lines.now }
     requires holders { length holders.now ≡ length lines.now }
-    requires few { length lines.now ≤ 1024 }
+    requires few { length lines.now ≤ 131072 }
     ensures { IfOk result (λ all.
         all.items ≡ split_lines lines.now (map shown_as entries.now) holders.now) }
 {
@@ -83,34 +67,53 @@ pub fn split_line<'h>(line: &SplitLine, entry: &SplitEntry, holders: &'h [Worker
 }
 
 /// Whether one of the splits may start on one of the workers. Where no worker has a free slot, no split is
-/// looked at.
-pub fn may_any_start(
-    workers: &[WorkerLine],
-    barred: &PairTable,
-    lines: &[SplitLine],
-    entries: &[SplitEntry],
-    holders: &BlockMap,
-) -> bool
-    requires entries { length entries.now ≡ length lines.now }
-    requires holders { length holders.now ≡ length lines.now }
-    requires few { length lines.now ≤ 1024 }
-    requires workers { length workers.now ≤ 256 }
-    requires known { All (All (λ h. h < length workers.now)) holders.now }
-    ensures { (wave : Wave) → wave.workers ≡ workers.now
-        → wave.barred ≡ marked_rows barred.now (length lines.now) (length workers.now)
-        → wave.splits ≡ split_lines lines.now (map shown_as entries.now) holders.now
+/// looked at. It takes no memory.
+pub fn may_any_start(table: &WorkerTable, entries: &[SplitEntry], holders: &BlockMap) -> bool
+    requires holders { length holders.now ≡ length entries.now }
+    requires few { length entries.now < 2 ^ 32 }
+    requires known { All (All (λ h. h < length table.now.each)) holders.now }
+    ensures { (wave : Wave) (lines : List Split) → length entries.now ≡ length lines
+        → wave.workers ≡ map worker_line table.now.each → wave.barred ≡ table.now.barred.rows
+        → wave.splits ≡ split_lines lines (map shown_as entries.now) holders.now
         → IsTrue result ↔ ((split : ℕ) × (w : ℕ) × IsAdmissible wave split w) }
 {
-    let free = free_workers(workers);
-    if free.is_empty() {
+    let Some(first) = table.first_free() else {
         return false;
-    }
-    for i in 0..lines.len() {
+    };
+    for i in 0..entries.len() {
         let split = SplitNo::new(i as u32);
-        let line = split_line(&lines[i], &entries[i], holders.holders(split));
-        if may_start(workers, &free, &barred.row(split), split, &line) {
+        if is_open(table, &entries[i], holders.holders(split)) && any_takes(table, split, first) {
             return true;
         }
     }
     false
+}
+
+// Whether the split is pending and has a live holder.
+fn is_open(table: &WorkerTable, entry: &SplitEntry, holders: &[WorkerNo]) -> bool
+    requires { All (λ h. h < length table.now.each) holders.now }
+    ensures { result ≡ is_open table.now (shown_as entry.now) holders.now }
+{
+    matches!(entry, SplitEntry::Pending) && is_any_live(table, holders)
+}
+
+// Whether the split may start on the first of these workers, or else on one of those after it.
+fn any_takes(table: &WorkerTable, split: SplitNo, first: WorkerNo) -> bool
+    ensures { IsTrue result ↔ ((w : ℕ) × (first ≤ w) × Takes table.now split w) }
+{
+    for w in first.index()..table.workers().len() {
+        let worker = WorkerNo::new(w as u16);
+        if takes(table, split, worker) {
+            return true;
+        }
+    }
+    false
+}
+
+// Whether the worker has a free slot, and is not barred for the split.
+fn takes(table: &WorkerTable, split: SplitNo, worker: WorkerNo) -> bool
+    requires { worker < length table.now.each }
+    ensures { IsTrue result ↔ Takes table.now split worker }
+{
+    has_free_slot(table, worker) && !table.barred(split, worker)
 }

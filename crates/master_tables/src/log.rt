@@ -1,19 +1,34 @@
-ghost use Rattle.std.specs.Prelude.{◌≡◌, ◌<◌, ◌+◌, ◌-◌, ◌^◌, ◌++◌, ◌∷◌, [], length, vec_capacity, vec_len};
+ghost use Rattle.std.specs.Prelude.{◌≡◌, ◌<◌, ◌+◌, ◌-◌, ◌^◌, ◌++◌, ◌∷◌, [], false, length};
+ghost use Rattle.std.specs.Prelude.{vec_capacity, vec_len};
+ghost use Rattle.compact_lists.specs.Lists.{is_join};
 
 use compact_lists::{CountList, EventList};
 use master_state::{Event, Start, Work};
-use node_ids::{AttemptNo, WorkerNo};
+use node_ids::{AttemptNo, SplitSet, WorkerNo};
 use shuffle_reduce::PartResult;
 
-/// Adds an event to a history with room for it, and gives its place.
-pub fn record_event(history: &mut EventList, event: Event) -> u32
+/// Adds an event other than a join to a history with room for it, and gives its place.
+pub fn record_event(history: &mut EventList, event: Event<'_>) -> u32
+    requires no_join { is_join event ≡ false }
     requires room { length history.old.items < history.old.room }
     requires few { length history.old.items < 2 ^ 32 - 1 }
-    ensures items { history.new.items ≡ history.old.items ++ event ∷ [] }
+    ensures items { history.new.items ≡ history.old.items ++ event.entry ∷ [] }
     ensures capacity { history.new.room ≡ history.old.room }
     ensures place { result ≡ length history.old.items + 1 }
 {
     history.push(&event);
+    history.len() as u32
+}
+
+/// Adds the join of a worker with these splits to a history with room for it, and gives its place.
+pub fn record_join(history: &mut EventList, worker: WorkerNo, set: SplitSet) -> u32
+    requires room { length history.old.items < history.old.room }
+    requires few { length history.old.items < 2 ^ 32 - 1 }
+    ensures items { history.new.items ≡ history.old.items ++ Event.Join worker set ∷ [] }
+    ensures capacity { history.new.room ≡ history.old.room }
+    ensures place { result ≡ length history.old.items + 1 }
+{
+    history.push_join(worker, set);
     history.len() as u32
 }
 

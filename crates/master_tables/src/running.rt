@@ -5,12 +5,13 @@ ghost use Rattle.master_state.specs.declared.states.SplitState.TheVariants as st
 ghost use Rattle.master_state.specs.Tests.{is_numbered, part_runs, runs};
 ghost use Rattle.master_state.specs.Changes.{part_without, without_attempts};
 ghost use Rattle.master_tables.specs.Entries.{entry_of, entry_without, shown_as};
-ghost use Rattle.master_tables.specs.Ends.{ends, has_worker};
+ghost use Rattle.master_tables.specs.Ends.{ends};
 ghost use Rattle.master_tables.specs.Places.{part_of, split_of};
 
 use crate::entries::SplitEntry;
 use master_state::{Attempt, PartState, Work};
-use node_ids::{AttemptNo, PartNo, SplitNo, WorkerNo, WorkerSet};
+use node_ids::{AttemptNo, PartNo, SplitNo, WorkerNo};
+use worker_table::Dead;
 
 /// A split that runs an attempt, and the worker of the attempt.
 #[derive(Clone, Copy)]
@@ -26,12 +27,12 @@ pub struct RunningPart {
     pub worker: WorkerNo,
 }
 
-/// Which attempts end: that of a number, all on a worker, or all on the workers of a set.
-#[derive(Clone, Copy)]
-pub enum Ending {
+/// Which attempts end: that of a number, all on a worker, or all on the workers of a list.
+#[derive(Drop)]
+pub enum Ending<'a> {
     Numbered(AttemptNo),
     On(WorkerNo),
-    Among(WorkerSet),
+    Among(Dead<'a>),
 }
 
 /// The split for which an attempt was started, if for one.
@@ -104,7 +105,7 @@ fn changed_entry(entry: &SplitEntry, attempt: AttemptNo) -> Option<SplitEntry>
 }
 
 /// What a split still runs, of an attempt and perhaps another, without those that end.
-pub fn without_ended(attempt: Attempt, other: Option<Attempt>, ending: &Ending) -> SplitEntry
+pub fn without_ended(attempt: Attempt, other: Option<Attempt>, ending: &Ending<'_>) -> SplitEntry
     ensures { result ≡ entry_of (without_attempts (ends ending.now) (states.Running attempt other)) }
 {
     let first_stays = !ends(ending, &attempt);
@@ -132,21 +133,14 @@ pub fn without_ended(attempt: Attempt, other: Option<Attempt>, ending: &Ending) 
 }
 
 /// Whether the attempt is one that ends.
-pub fn ends(ending: &Ending, attempt: &Attempt) -> bool
+pub fn ends(ending: &Ending<'_>, attempt: &Attempt) -> bool
     ensures { result ≡ ends ending.now attempt.now }
 {
     match ending {
         Ending::Numbered(number) => attempt.number == *number,
         Ending::On(worker) => attempt.worker == *worker,
-        Ending::Among(workers) => has_worker(workers, attempt.worker),
+        Ending::Among(dead) => dead.has(attempt.worker),
     }
-}
-
-/// Whether the worker, of whatever number, is in the set.
-pub fn has_worker(workers: &WorkerSet, worker: WorkerNo) -> bool
-    ensures { result ≡ has_worker workers.now worker }
-{
-    worker.index() < 256 && workers.has(worker)
 }
 
 /// The part runs the attempt no more.
@@ -159,7 +153,7 @@ pub fn end_part_attempt(parts: &mut Vec<PartState>, part: PartNo, attempt: Attem
 }
 
 /// What becomes of a part whose attempt ends, if it is one that does.
-pub fn part_without_ended(part: PartState, ending: &Ending) -> PartState
+pub fn part_without_ended(part: PartState, ending: &Ending<'_>) -> PartState
     ensures { result ≡ part_without (ends ending.now) part }
 {
     match part {

@@ -1,12 +1,23 @@
-use block_map::{BlockMap, MapError};
+use block_map::{BlockMap, HolderLimit, MapError};
 use node_ids::{SplitNo, WorkerNo};
 use std::alloc::Global;
 use std::process::Abort;
 
 // Adds a holder of the one split.
-fn add(rt: &impl Abort, map: &mut BlockMap, worker: u16) -> Result<(), MapError> {
+fn add(
+    rt: &impl Abort,
+    map: &mut BlockMap,
+    limit: HolderLimit,
+    worker: u16,
+) -> Result<(), MapError> {
     assert!(rt; map.splits() == 1);
-    map.add(SplitNo::new(0), WorkerNo::new(worker))
+    map.add(limit, SplitNo::new(0), WorkerNo::new(worker))
+}
+
+// Whether the one split is full.
+fn is_full(rt: &impl Abort, map: &BlockMap, limit: HolderLimit) -> bool {
+    assert!(rt; map.splits() == 1);
+    map.is_full(limit, SplitNo::new(0))
 }
 
 // Drops a holder of the one split.
@@ -19,7 +30,7 @@ fn drop_one(rt: &impl Abort, map: &mut BlockMap, worker: u16) -> Result<(), MapE
 fn map_of(rt: &impl Abort, alloc: Global, workers: &[u16]) -> BlockMap {
     let mut map = BlockMap::new(alloc, 1).expect(rt, "no map");
     for worker in workers {
-        add(rt, &mut map, *worker).expect(rt, "not added");
+        add(rt, &mut map, HolderLimit::Eight, *worker).expect(rt, "not added");
     }
     map
 }
@@ -39,16 +50,21 @@ fn holders_stand_as_they_were_added(rt: HostRuntime) {
 fn reasons_come_in_their_order(rt: HostRuntime) {
     let mut map = map_of(&rt, rt.alloc(), &[0, 1, 2, 3, 4, 5, 6, 7]);
     let told = (
-        add(&rt, &mut map, 7),
-        add(&rt, &mut map, 8),
+        add(&rt, &mut map, HolderLimit::Eight, 7),
+        add(&rt, &mut map, HolderLimit::Eight, 8),
         drop_one(&rt, &mut map, 8),
+        is_full(&rt, &map, HolderLimit::Sixteen),
+        add(&rt, &mut map, HolderLimit::Sixteen, 8),
     );
     let wanted = (
         Err(MapError::AlreadyHolds),
-        Err(MapError::EightHolders),
+        Err(MapError::ManyHolders),
         Err(MapError::NotHolder),
+        false,
+        Ok(()),
     );
     assert_eq!(rt; told, wanted);
+    assert!(rt; is_full(&rt, &map, HolderLimit::Eight));
     assert!(rt; map.splits() == 1);
-    assert!(rt; map.is_full(SplitNo::new(0)) && map.holds(SplitNo::new(0), WorkerNo::new(7)));
+    assert!(rt; map.holds(SplitNo::new(0), WorkerNo::new(7)));
 }

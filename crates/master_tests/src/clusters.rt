@@ -4,6 +4,7 @@ ghost use Rattle.std.specs.List.{range_with_len};
 ghost use Rattle.shuffle_reduce.specs.Gather.{values_of};
 
 use crate::jobs::racks_of;
+use block_map::HolderLimit;
 use master_core::{Cluster, ClusterError};
 use node_ids::{DocNo, SplitNo};
 use std::alloc::Global;
@@ -52,12 +53,12 @@ fn cluster_of(rt: &impl Abort, alloc: Global, count: u32) -> Option<Result<Clust
     let tree = racks_of(rt, alloc, &[1])?;
     let (lines, texts) = split_of(alloc, count)?;
     assert!(rt; tree.workers() == 1);
-    Some(Cluster::new(alloc, tree, &[1], lines, texts, 1, 3))
+    Some(Cluster::new(alloc, tree, &[1], lines, texts, 1, 3, HolderLimit::Eight))
 }
 
 #[test]
 fn a_cluster_has_no_more_documents_than_it_may_have(rt: HostRuntime) {
-    for (count, is_made) in [(65_536, true), (65_537, false)] {
+    for (count, is_made) in [(1_048_576, true), (1_048_577, false)] {
         let made = cluster_of(&rt, rt.alloc(), count).expect(&rt, "no memory");
         match made {
             Ok(_) => assert!(rt; is_made, "{count}"),

@@ -5,7 +5,7 @@ use crate::jobs::{Call, Shape, SplitRow, answer, end};
 use crate::one_hold::wave;
 use crate::refusals::{is_as_before, one_master};
 use crate::seen::{Shown, seen};
-use crate::shared_masters::{AMPLE, list_of, make_master, settles};
+use crate::shared_masters::{AMPLE, list_of, make_master, settles, sweep_all};
 use master_core::Master;
 use master_state::Answer;
 use node_ids::{SplitNo, WorkerNo};
@@ -34,7 +34,7 @@ fn make_hand<L: Ledger + OfJob, R: Wait + Abort>(
     }
 }
 
-// Of two hands one is made, and its call is accepted.
+// Of two hands one is made, and its call is accepted, where there is memory for its counts.
 fn sweep_by_either<L: Ledger + OfJob, R: Wait + Abort>(
     rt: &R,
     alloc: Global,
@@ -43,8 +43,9 @@ fn sweep_by_either<L: Ledger + OfJob, R: Wait + Abort>(
     let first = make_hand(rt, alloc, shared);
     let second = make_hand(rt, alloc, shared);
     let mut hand = first.or(second).expect(rt, "neither was made");
-    let told = shared.sweep(rt, &mut hand, &[1; 256]).answer;
-    assert_eq!(rt; told, Answer::Accepted(1, ()));
+    if let Some(told) = sweep_all(rt, alloc, shared, &mut hand, 1) {
+        assert_eq!(rt; told, Answer::Accepted(1, ()));
+    }
     list_of(alloc, hand)
 }
 

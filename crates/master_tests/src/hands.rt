@@ -2,7 +2,7 @@ ghost use Rattle.std.specs.Prelude.{◌≡◌, ◌<◌, [], length, vec_len, IsT
 ghost use Rattle.hand_ledger.specs.Settling.{all_calls};
 
 use crate::jobs::SplitRow;
-use crate::shared_masters::{AMPLE, hand_of, list_of, master_of, wave_of};
+use crate::shared_masters::{AMPLE, hand_of, list_of, master_of, sweep_all, wave_of};
 use master_core::Master;
 use master_state::{Answer, Limits, Why};
 use shared_master::{Closed, Hand, HandError, OfJob, SharedMaster, Torn, settle};
@@ -21,11 +21,12 @@ const TWO_SPLITS: [SplitRow<'static>; 2] = [(10, &[0], "one two"), (20, &[0], "t
 // The place of a sweep with this count for each worker.
 fn sweep_place<L: Ledger + OfJob, R: Wait>(
     rt: &R,
+    alloc: Global,
     shared: &SharedMaster<L>,
     hand: &mut Hand<L>,
     count: u64,
 ) -> Option<u32> {
-    match shared.sweep(rt, hand, &[count; 256]).answer {
+    match sweep_all(rt, alloc, shared, hand, count)? {
         Answer::Accepted(place, ()) => Some(place),
         Answer::Ignored(_, ()) => None,
     }
@@ -45,7 +46,7 @@ fn call_often<L: Ledger + OfJob, R: Wait>(
         let place = if call % 4 == 0 {
             wave_of(rt, alloc, shared, hand)?.place
         } else {
-            sweep_place(rt, shared, hand, call)?
+            sweep_place(rt, alloc, shared, hand, call)?
         };
         first = first.or(Some(place));
     }
@@ -72,19 +73,21 @@ fn call_in_two_threads<L: Ledger + OfJob + Send + Sync, R: Threads + Wait + Abor
 
 fn is_full<L: Ledger + OfJob, R: Wait>(
     rt: &R,
+    alloc: Global,
     shared: &SharedMaster<L>,
     hand: &mut Hand<L>,
 ) -> bool {
-    shared.sweep(rt, hand, &[0; 256]).answer == Answer::Ignored(Why::HistoryFull, ())
+    sweep_all(rt, alloc, shared, hand, 0) == Some(Answer::Ignored(Why::HistoryFull, ()))
 }
 
 fn is_full_for_both<L: Ledger + OfJob, R: Wait>(
     rt: &R,
+    alloc: Global,
     shared: &SharedMaster<L>,
     one: &mut Hand<L>,
     two: &mut Hand<L>,
 ) -> bool {
-    is_full(rt, shared, one) && is_full(rt, shared, two)
+    is_full(rt, alloc, shared, one) && is_full(rt, alloc, shared, two)
 }
 
 // The notes of a hand that had room when the master had none.
@@ -166,7 +169,7 @@ fn settle_two_hands<L: Ledger + OfJob + Send + Sync, R: Threads + Wait + Abort +
     let mut one = hand_of(rt, alloc, &shared);
     let mut two = hand_of(rt, alloc, &shared);
     let lowest = call_in_two_threads(rt, alloc, &shared, &mut one, &mut two);
-    assert!(rt; is_full_for_both(rt, &shared, &mut one, &mut two));
+    assert!(rt; is_full_for_both(rt, alloc, &shared, &mut one, &mut two));
     assert!(rt; is_told_full(&one) && is_told_full(&two));
     let alone = list_of(alloc, one).expect(rt, "no memory");
     let counts = settle_one_and_both(rt, shared.into_master(), alone, two, lowest);

@@ -226,21 +226,26 @@ fn assert_order(rt: &impl Abort, alloc: Global, master: &Master) {
 
 // The last event, which is the second wave, with its start.
 fn assert_second_wave(rt: &impl Abort, master: &Master) {
-    let wave = Event::Wave {
-        first: AttemptNo::new(2),
-        count: 1,
-        cost: 10,
-    };
     let start = Start {
         work: Work::Split(SplitNo::new(0)),
         worker: WorkerNo::new(1),
     };
     let history = master.history();
-    let last = history.get(history.len().wrapping_sub(1));
+    let is_last = match &history.get(history.len().wrapping_sub(1)) {
+        Some(event) => is_second_wave(event),
+        None => false,
+    };
     assert_eq!(rt;
-        (last, master.start(AttemptNo::new(2))),
-        (Some(wave), Some(start))
+        (is_last, master.start(AttemptNo::new(2))),
+        (true, Some(start))
     );
+}
+
+fn is_second_wave(event: &Event<'_>) -> bool {
+    match event {
+        Event::Wave { first, count, cost } => first.index() == 2 && *count == 1 && *cost == 10,
+        _ => false,
+    }
 }
 
 #[test]

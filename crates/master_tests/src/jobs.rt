@@ -3,6 +3,7 @@ ghost use Rattle.std.specs.Prelude.{◌≡◌, IfSome, length, map};
 ghost use Rattle.std.specs.List.{range_with_len};
 ghost use Rattle.shuffle_reduce.specs.Gather.{values_of};
 
+use block_map::HolderLimit;
 use master_core::{Cluster, ClusterError, Master};
 use master_state::{Answer, CommitError, Glance, Limits, Wave, Why, Work};
 use node_ids::{AttemptNo, CentreNo, DocNo, PartNo, SplitNo, SplitSet, WorkerNo};
@@ -15,6 +16,7 @@ use std::sync::Arc;
 use wave_planner::{Planned, plan};
 use wave_problem::SplitLine;
 use word_map::{Document, Run, SplitText, Text, map_split};
+use worker_table::DeadList;
 
 /// A split: its bytes, its first holders, and the words of its one document.
 pub type SplitRow<'r> = (u64, &'r [u16], &'r str);
@@ -128,7 +130,7 @@ fn texts_of(rt: &impl Abort, alloc: Global, rows: &[SplitRow<'_>]) -> Option<Vec
 {
     let mut texts = Vec::new(alloc);
     for number in 0..rows.len() {
-        assert!(rt; number < 1024);
+        assert!(rt; number < 131_072);
         let text = text_of(alloc, SplitNo::new(number as u32), rows[number].2)?;
         texts.push(Arc::new(alloc, text).ok()?).ok()?;
     }
@@ -160,7 +162,16 @@ fn cluster_of(
 {
     assert!(rt; tree.workers() == of.slots.len() && lines.len() == of.splits.len());
     assert!(rt; of.parts >= 1);
-    Cluster::new(alloc, tree, of.slots, lines, texts, of.parts, 3)
+    Cluster::new(
+        alloc,
+        tree,
+        of.slots,
+        lines,
+        texts,
+        of.parts,
+        3,
+        HolderLimit::Eight,
+    )
 }
 
 /// A master of a cluster.
@@ -221,10 +232,10 @@ pub fn answer(rt: &impl Abort, alloc: Global, job: &mut Job, call: Call) -> Opti
         Call::Done(attempt) => done(rt, alloc, job, AttemptNo::new(attempt)),
         Call::Fail(attempt) => Some(fail(job, AttemptNo::new(attempt))),
         Call::Withdraw(attempt) => Some(job.master.withdraw(AttemptNo::new(attempt))),
-        Call::Sweep(count) => Some(job.master.sweep(&[count; 256]).answer),
+        Call::Sweep(count) => sweep(alloc, job, count),
         Call::Reduce => Some(reduce(alloc, job)),
         Call::Die(worker) => Some(die(rt, job, WorkerNo::new(worker))),
-        Call::Join(worker, split) => Some(join(rt, job, WorkerNo::new(worker), split)),
+        Call::Join(worker, split) => join(rt, alloc, job, WorkerNo::new(worker), split),
         Call::Add(split, worker) | Call::Lose(split, worker) | Call::Backup(split, worker) => {
             Some(of_pair(
                 rt,
@@ -313,6 +324,13 @@ fn fail(job: &mut Job, attempt: AttemptNo) -> Answer {
     }
 }
 
+fn sweep(alloc: Global, job: &mut Job, count: u64) -> Option<Answer> {
+    let workers = job.master.cluster().slots().len();
+    let counts = vec![in alloc; count; workers].ok()?;
+    let mut dead = DeadList::with_room(alloc, workers).ok()?;
+    Some(job.master.sweep(&counts, &mut dead))
+}
+
 fn reduce(alloc: Global, job: &mut Job) -> Answer {
     match job.master.reduce_start(alloc) {
         Answer::Accepted(place, reply) => {
@@ -328,15 +346,20 @@ fn die(rt: &impl Abort, job: &mut Job, worker: WorkerNo) -> Answer {
     job.master.die(worker)
 }
 
-fn join(rt: &impl Abort, job: &mut Job, worker: WorkerNo, split: Option<u16>) -> Answer {
-    let mut set = SplitSet::new();
+fn join(
+    rt: &impl Abort,
+    alloc: Global,
+    job: &mut Job,
+    worker: WorkerNo,
+    split: Option<u16>,
+) -> Option<Answer> {
+    let mut set = SplitSet::new(alloc);
     if let Some(split) = split {
-        assert!(rt; split < 1024);
-        set.put(SplitNo::new(u32::from(split)));
+        set.put(SplitNo::new(u32::from(split))).ok()?;
     }
     let cluster = job.master.cluster();
     assert!(rt; worker.index() < cluster.slots().len() && set.are_below(cluster.splits().len()));
-    job.master.join(worker, &set)
+    Some(job.master.join(worker, set))
 }
 
 fn of_pair(rt: &impl Abort, job: &mut Job, call: Call, split: SplitNo, worker: WorkerNo) -> Answer {

@@ -6,7 +6,7 @@ use crate::shared_masters;
 use crate::shared_masters::{hand_of, join, list_of, made_of, master_of, settles, wave_of};
 use master_core::Master;
 use master_state::{Answer, Why};
-use node_ids::{AttemptNo, SplitNo, SplitSet, WorkerNo};
+use node_ids::{AttemptNo, SplitNo, WorkerNo};
 use shared_master::{Hand, OfJob, SharedMaster};
 use std::alloc::Global;
 use std::marker::Brand;
@@ -96,15 +96,6 @@ fn hand_in<L: Ledger + OfJob, R: Wait + Abort>(
     }
 }
 
-// The split, where it is held.
-fn set_of(split: Option<u16>) -> SplitSet {
-    let mut set = SplitSet::new();
-    if split.is_some() {
-        set.put(SplitNo::new(0));
-    }
-    set
-}
-
 // What the call of a hand is answered.
 fn answer_by_hand<L: Ledger + OfJob, R: Wait + Abort>(
     rt: &R,
@@ -126,7 +117,10 @@ fn answer_by_hand<L: Ledger + OfJob, R: Wait + Abort>(
             shared.die(rt, hand, WorkerNo::new(worker))
         }
         Call::Join(worker, split) => {
-            join(rt, shared, hand, WorkerNo::new(worker), &set_of(split))
+            // (the one split, where it is held)
+            let splits = [SplitNo::new(0)];
+            let held: &[SplitNo] = if split.is_some() { &splits } else { &[] };
+            join(rt, alloc, shared, hand, WorkerNo::new(worker), held)
         }
         _ => panic!(rt; "{call:?}"),
     }

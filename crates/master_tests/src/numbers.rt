@@ -5,7 +5,7 @@ use crate::shared_masters::{AMPLE, hand_of, join, master_of, wave_of};
 use block_map::CopyOrder;
 use master_core::Master;
 use master_state::{Answer, Event, Why};
-use node_ids::{AttemptNo, SplitNo, SplitSet, WorkerNo};
+use node_ids::{AttemptNo, SplitNo, WorkerNo};
 use shared_master::{Hand, OfJob, SharedMaster};
 use std::alloc::Global;
 use std::marker::Brand;
@@ -19,6 +19,7 @@ const ROWS: [SplitRow<'static>; 1] = [(5, &[0], "one")];
 // The calls that change where a split lies and which workers live, each accepted.
 fn call_of_workers<L: Ledger + OfJob, R: Wait + Abort>(
     rt: &R,
+    alloc: Global,
     shared: &SharedMaster<L>,
     hand: &mut Hand<L>,
 ) {
@@ -28,7 +29,7 @@ fn call_of_workers<L: Ledger + OfJob, R: Wait + Abort>(
         shared.add(rt, hand, s, b),
         shared.lose(rt, hand, s, b),
         shared.die(rt, hand, b),
-        join(rt, shared, hand, b, &SplitSet::new()),
+        join(rt, alloc, shared, hand, b, &[]),
     ];
     let wanted = [
         Answer::Accepted(1, ()),
@@ -55,11 +56,18 @@ fn call_of_attempts<L: Ledger + OfJob, R: Wait + Abort>(
         shared.part_failed(rt, hand, one),
     ];
     let wanted = [Answer::Accepted(6, ()), old, old];
-    let last = (Some(Event::Withdraw(one)), 6);
-    assert_eq!(rt;
-        (told, hand.last(), hand.last_place()),
-        (wanted, last.0, last.1)
-    );
+    let is_last = match &hand.last() {
+        Some(event) => is_withdrawal(event, one),
+        None => false,
+    };
+    assert_eq!(rt; (told, is_last, hand.last_place()), (wanted, true, 6));
+}
+
+fn is_withdrawal(event: &Event<'_>, of: AttemptNo) -> bool {
+    match event {
+        Event::Withdraw(attempt) => attempt.index() == of.index(),
+        _ => false,
+    }
 }
 
 fn call_by_numbers<L: Ledger + OfJob, R: Wait + Abort>(
@@ -73,7 +81,7 @@ fn call_by_numbers<L: Ledger + OfJob, R: Wait + Abort>(
 {
     let shared: SharedMaster<L> = SharedMaster::new(blank, master);
     let mut hand = hand_of(rt, alloc, &shared);
-    call_of_workers(rt, &shared, &mut hand);
+    call_of_workers(rt, alloc, &shared, &mut hand);
     call_of_attempts(rt, alloc, &shared, &mut hand);
 }
 

@@ -2,7 +2,7 @@
 ghost use Rattle.std.specs.Prelude.{◌≡◌, []};
 
 use crate::jobs::SplitRow;
-use crate::shared_masters::{AMPLE, make_master};
+use crate::shared_masters::{AMPLE, make_master, sweep_all};
 use master_core::Master;
 use shared_master::{OfJob, SharedMaster, settle};
 use std::alloc::Global;
@@ -33,7 +33,7 @@ fn start_and_sweep<L: Ledger + OfJob + Send + Sync, R: Threads + Wait + Sync>(
     thread::join(
         rt,
         || shared.plan_wave(rt, alloc, &mut one).is_ok(),
-        || shared.sweep(rt, &mut two, &[1; 256]).answer,
+        || sweep_all(rt, alloc, &shared, &mut two, 1),
     );
     let hands = Vec::from_array(alloc, [one, two]).ok()?;
     let settled = settle(shared.into_master(), hands).ok()?;

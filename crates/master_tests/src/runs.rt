@@ -3,10 +3,10 @@ ghost use Rattle.std.specs.Prelude.{◌≡◌, ◌<◌, []};
 
 use crate::jobs::SplitRow;
 use crate::shared_jobs::reduce_one;
-use crate::shared_masters::{join, made_of, master_of, settles, wave_of};
+use crate::shared_masters::{join, made_of, master_of, settles, sweep_all, wave_of};
 use master_core::Master;
 use master_state::Limits;
-use node_ids::{AttemptNo, SplitNo, SplitSet, WorkerNo};
+use node_ids::{AttemptNo, SplitNo, WorkerNo};
 use shared_master::{Hand, OfJob, SharedMaster};
 use std::alloc::Global;
 use std::marker::Brand;
@@ -76,9 +76,10 @@ fn call_of<L: Ledger + OfJob, R: Wait>(
     }
 }
 
-// The call that a number draws, of those that take no memory.
+// The call that a number draws among the calls that the master answers without memory.
 fn call_without_memory<L: Ledger + OfJob, R: Wait + Abort>(
     rt: &R,
+    alloc: Global,
     shared: &SharedMaster<L>,
     hand: &mut Hand<L>,
     draw: u64,
@@ -90,7 +91,7 @@ fn call_without_memory<L: Ledger + OfJob, R: Wait + Abort>(
     match kind {
         0..=3 => call_of(rt, shared, hand, kind, attempt, split, worker),
         4..=5 => {
-            join(rt, shared, hand, worker, &SplitSet::new());
+            join(rt, alloc, shared, hand, worker, &[]);
         }
         _ => call_of(rt, shared, hand, 4 + kind % 3, attempt, split, worker),
     }
@@ -112,9 +113,9 @@ fn call<L: Ledger + OfJob, R: Wait + Abort>(
 ) {
     let (draw, hand) = (player.seed >> 33, &mut player.hand);
     match draw % 16 {
-        0..=8 => call_without_memory(rt, shared, hand, draw),
+        0..=8 => call_without_memory(rt, alloc, shared, hand, draw),
         9 => {
-            shared.sweep(rt, hand, &[draw / 16; 256]);
+            sweep_all(rt, alloc, shared, hand, draw / 16);
         }
         10..=11 => {
             reduce_one(rt, alloc, shared, hand);

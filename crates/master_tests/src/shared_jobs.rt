@@ -28,11 +28,25 @@ fn start_twice<L: Ledger + OfJob, R: Wait + Abort>(
     let wave = wave_of(rt, alloc, shared, hand).expect(rt, "no wave");
     assert!(rt; b.index() < shared.sizes().workers && s.index() < shared.sizes().splits);
     let answer = shared.backup(rt, hand, s, b);
-    let backup = (Answer::Accepted(2, two), Some(Event::Backup(two, s, b)));
     assert_eq!(rt;
-        (wave.place, wave.count, answer, hand.last()),
-        (1, 1, backup.0, backup.1)
+        (wave.place, wave.count, answer),
+        (1, 1, Answer::Accepted(2, two))
     );
+    let is_last = match &hand.last() {
+        Some(event) => is_second_backup(event),
+        None => false,
+    };
+    assert!(rt; is_last);
+}
+
+// Whether it is the second attempt, of the first split on the second worker.
+fn is_second_backup(event: &Event<'_>) -> bool {
+    match event {
+        Event::Backup(attempt, split, worker) => {
+            attempt.index() == 2 && split.index() == 0 && worker.index() == 1
+        }
+        _ => false,
+    }
 }
 
 // What a result is answered, which does not come back.

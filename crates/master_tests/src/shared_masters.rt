@@ -11,6 +11,7 @@ use std::process::Abort;
 use std::sync::ledger::Ledger;
 use std::sync::{Arc, Wait};
 use word_map::{MapResult, map_split};
+use worker_table::DeadList;
 
 /// How many workers the first rack has, and how many the second; each has a slot.
 pub type Racks = (usize, usize);
@@ -46,6 +47,20 @@ pub fn make_master(
     Master::new(alloc, cluster, limits).ok()
 }
 
+/// What a sweep with this count for each worker is answered, where there is memory for the counts.
+pub fn sweep_all<L: Ledger + OfJob, R: Wait>(
+    rt: &R,
+    alloc: Global,
+    shared: &SharedMaster<L>,
+    hand: &mut Hand<L>,
+    count: u64,
+) -> Option<Answer> {
+    let workers = shared.sizes().workers;
+    let counts = vec![in alloc; count; workers].ok()?;
+    let mut dead = DeadList::with_room(alloc, workers).ok()?;
+    Some(shared.sweep(rt, hand, &counts, &mut dead))
+}
+
 /// Such a master, where there is memory.
 pub fn master_of(
     rt: &impl Abort,
@@ -78,14 +93,17 @@ pub fn made_of(rt: &impl Abort, alloc: Global, split: SplitNo, words: &str) -> M
 /// A worker comes back with these splits.
 pub fn join<L: Ledger + OfJob, R: Wait + Abort>(
     rt: &R,
+    alloc: Global,
     shared: &SharedMaster<L>,
     hand: &mut Hand<L>,
     worker: WorkerNo,
-    splits: &SplitSet,
+    splits: &[SplitNo],
 ) -> Answer {
+    let set = SplitSet::of(alloc, splits).ok().expect(rt, "no memory");
+    let kept = SplitSet::of(alloc, splits).ok().expect(rt, "no memory");
     let sizes = shared.sizes();
-    assert!(rt; worker.index() < sizes.workers && splits.are_below(sizes.splits));
-    shared.join(rt, hand, worker, splits)
+    assert!(rt; worker.index() < sizes.workers && set.are_below(sizes.splits));
+    shared.join(rt, hand, worker, set, kept)
 }
 
 /// A list of one hand.

@@ -1,13 +1,7 @@
 use node_ids::WorkerNo;
+use std::alloc::Global;
 use std::process::Abort;
-use worker_table::WorkerTable;
-
-// The counts of a sweep in which only the first worker has beaten.
-fn counts_of_first(count: u64) -> [u64; 256] {
-    let mut counts = [0; 256];
-    counts[0] = count;
-    counts
-}
+use worker_table::{DeadList, WorkerTable};
 
 // The counts of sweeps, one after another, each with whether the worker has been silent too long.
 const SWEEPS: [(u64, bool); 7] = [
@@ -20,22 +14,25 @@ const SWEEPS: [(u64, bool); 7] = [
     (2, false),
 ];
 
-// Whether the first worker has been silent too long, and no other is told.
-fn is_silent(table: &mut WorkerTable, count: u64) -> bool {
-    let silent = table.sweep(&counts_of_first(count));
-    silent.are_below(1) && silent.has(WorkerNo::new(0))
+// Whether the first worker has been silent too long, and no other is told. Each worker has this count.
+fn is_silent(rt: &impl Abort, alloc: Global, table: &mut WorkerTable, count: u64) -> bool {
+    let workers = table.workers().len();
+    let counts = vec![in alloc; count; workers].expect(rt, "no counts");
+    let mut dead = DeadList::with_room(alloc, workers).expect(rt, "no list");
+    table.sweep(&counts, &mut dead);
+    dead.as_slice().len() == 1 && dead.dead().has(WorkerNo::new(0))
 }
 
-fn sweep_often(rt: &impl Abort, table: &mut WorkerTable) {
+fn sweep_often(rt: &impl Abort, alloc: Global, table: &mut WorkerTable) {
     for (count, told) in SWEEPS {
-        assert_eq!(rt; (count, is_silent(table, count)), (count, told));
+        assert_eq!(rt; (count, is_silent(rt, alloc, table, count)), (count, told));
     }
 }
 
 #[test]
 fn the_third_silent_sweep_tells(rt: HostRuntime) {
-    let mut table = WorkerTable::new(rt.alloc(), &[1], 3).expect(&rt, "no table");
-    sweep_often(&rt, &mut table);
+    let mut table = WorkerTable::new(rt.alloc(), &[1], 1, 3, 0).expect(&rt, "no table");
+    sweep_often(&rt, rt.alloc(), &mut table);
     let worker = WorkerNo::new(0);
     assert!(rt; table.workers().len() == 1 && table.live(worker) && table.slots(worker) == 1);
 }

@@ -28,7 +28,7 @@ use std::process::ExitCode;
 use std::rt::Clock;
 use std::sync::Wait;
 use std::thread::Threads;
-use std::{env, io};
+use std::{env, io, thread};
 use tools::{Ending, Message, check_on, explain, plan};
 
 fn main(rt: HostRuntime) -> ExitCode {
@@ -97,7 +97,7 @@ fn run_command(
         Ask::Plan(options) => run_plan(rt, options),
         Ask::Play(options) => run_play(rt, options),
         Ask::Serve => run_serve(rt),
-        Ask::Run(options) => run_job(rt, threads, options),
+        Ask::Run(options) => run_beside(rt, threads, options),
         Ask::Explain(entry) => run_explain(rt, entry),
     }
 }
@@ -152,6 +152,25 @@ fn run_serve(rt: &HostRuntime) -> Ending {
         }
         Err(_) => Ending::Failed(ToolError::Memory),
     }
+}
+
+// How much stack the thread asks for that runs a job, several times what it uses. The first thread has as much as
+// the limit on stacks says, which may be too little.
+const STACK_BYTES: usize = 524_288;
+
+// Runs a job in a thread with a stack of its own.
+fn run_beside(
+    rt: &HostRuntime,
+    threads: &(impl Threads + Wait + Clock + Sync),
+    options: RunOptions,
+) -> Ending {
+    thread::scope(thread::scope_env(), threads, |scope| {
+        let builder = thread::Builder::new().stack_size(STACK_BYTES);
+        match builder.spawn_scoped(scope, move || run_job(rt, threads, options)) {
+            Ok(thread) => thread.join(threads),
+            Err(_) => Ending::NoThread,
+        }
+    })
 }
 
 fn run_job(

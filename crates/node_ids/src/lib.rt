@@ -16,5 +16,5 @@ pub mod sets;
 pub use layout::Layout;
 pub use numbered::Numbered;
 pub use numbers::{AttemptNo, CentreNo, DocNo, PartNo, RackNo, SplitNo, WorkerNo};
-pub use pairs::{PairSet, PairTable};
-pub use sets::{SplitSet, WorkerSet};
+pub use pairs::PairSet;
+pub use sets::{SplitRow, SplitSet, SplitTable};

@@ -1,8 +1,10 @@
-ghost use Rattle.std.specs.Prelude.{◌≡◌, ℕ, ◌*◌, ◌<◌, ◌⊎◌, ◌↔◌, ◌≤◌, IsTrue, false, length, List};
-ghost use Rattle.node_ids.specs.Sets.{AreBelow, Has, has_number, no_splits, no_workers, with_number};
-ghost use Rattle.std.specs.Int.{bit_at};
+ghost use Rattle.std.specs.Prelude.{◌≡◌, ℕ, ◌*◌, ◌^◌, ◌<◌, ◌⊎◌, ◌↔◌, All, [], IfOk, IsTrue, OnOk, length};
+ghost use Rattle.node_ids.specs.Sets.{Has, has_number, is_in_row, row_of_all, row_with, with_number};
+ghost use Rattle.node_ids.specs.Sets.{emptied, no_numbers};
+ghost use Rattle.std.specs.List.Sorted.{IsNonDecreasing};
 
-use crate::numbers::{SplitNo, WorkerNo};
+use crate::numbers::SplitNo;
+use std::alloc::{AllocError, Global};
 use std::marker::Model;
 
 #[tactic(auto, using(std::proofs::lemmas::Nat::Bits::shr_and_one))]
@@ -21,158 +23,200 @@ pub(crate) fn set_bit(words: &mut [u64], n: usize)
     words[n / 64] |= 1 << (n % 64);
 }
 
-// Whether no bit of the word is set.
-fn is_zero(word: u64) -> bool
-    ensures none { IsTrue result → (k : ℕ) → k < 64 → bit_at word k ≡ 1 → ⊥ }
-    ensures some { (result ≡ false) → (k : ℕ) × (k < 64) × (bit_at word k ≡ 1) }
+// Sets each word to 0.
+fn empty(words: &mut Vec<u64>)
+    ensures { words.new.items ≡ emptied words.old.items }
 {
-    word == 0
-}
-
-// The bits of the first word that the second does not have.
-fn word_without(word: u64, other: u64) -> u64
-    ensures { (k : ℕ) → k < 64 → (bit_at result k ≡ 1) ↔ ((bit_at word k ≡ 1) × (bit_at other k ≡ 1 → ⊥)) }
-{
-    word & !other
-}
-
-// Whether the set has no number from the size on.
-fn are_all_below(words: &[u64], size: usize) -> bool
-    requires { length words.now ≤ 4096 }
-    ensures { IsTrue result ↔ AreBelow size words.now }
-{
-    for n in size..64 * words.len() {
-        if has_bit(words, n) {
-            return false;
-        }
+    for word in words.iter_mut() {
+        *word = 0;
     }
-    true
 }
 
-/// A set of workers, of which there are at most 256.
-#[derive(Clone, Copy, Debug, PartialEq, Eq)]
-pub struct WorkerSet {
-    words: [u64; 4],
+/// A set of splits as a table of bits, for the splits that it was made for. To put one in takes no memory.
+#[derive(Drop)]
+pub struct SplitTable {
+    words: Vec<u64>,
 }
 
-impl Model for WorkerSet {
+impl Model for SplitTable {
+    ghost use Rattle.std.specs.Prelude.{List, ℕ};
+
     ghost Value = { List ℕ };
 
-    ghost view = { λ s. s.words };
-
-    ghost inverse = { λ w. record { words = w } };
+    ghost view = { λ t. t.words.items };
 }
 
-impl WorkerSet {
-    // The set of these words.
-    pub(crate) fn from_words(words: [u64; 4]) -> Self
-        ensures { result ≡ words }
+impl SplitTable {
+    /// The table without a split, for so many. It takes 8 bytes for each 64.
+    pub fn new(alloc: Global, splits: usize) -> Result<SplitTable, AllocError>
+        requires { splits < 2 ^ 32 }
+        ensures { IfOk result (λ table. table ≡ no_numbers splits) }
     {
-        WorkerSet { words }
+        Ok(SplitTable {
+            words: vec![in alloc; 0; (splits + 63) / 64]?,
+        })
     }
 
-    /// The set without a member.
-    pub fn new() -> Self
-        ensures value { result ≡ no_workers }
-        ensures members { (n : ℕ) → Has result n → ⊥ }
+    /// Whether the split is in the table. None that it was not made for is.
+    pub fn has(&self, split: SplitNo) -> bool
+        ensures { result ≡ has_number self.now split }
     {
-        WorkerSet { words: [0; 4] }
+        split.index() / 64 < self.words.len() && has_bit(&self.words, split.index())
     }
 
-    /// Whether the worker is in the set.
-    pub fn has(&self, worker: WorkerNo) -> bool
-        requires { worker < 256 }
-        ensures { result ≡ has_number self.now worker }
+    /// Puts the split in, if the table was made for it.
+    pub fn put(&mut self, split: SplitNo)
+        ensures { self.new ≡ with_number self.old split }
     {
-        has_bit(&self.words, worker.index())
-    }
-
-    /// Puts the worker in, if it is not there.
-    pub fn put(&mut self, worker: WorkerNo)
-        requires { worker < 256 }
-        ensures value { self.new ≡ with_number self.old worker }
-        ensures members { (n : ℕ) → Has self.new n ↔ ((n ≡ worker) ⊎ Has self.old n) }
-    {
-        set_bit(&mut self.words, worker.index());
-    }
-
-    /// Whether the set has no member.
-    pub fn is_empty(&self) -> bool
-        ensures none { IsTrue result → (n : ℕ) → Has self.now n → ⊥ }
-        ensures some { (result ≡ false) → (n : ℕ) × Has self.now n }
-    {
-        is_zero(self.words[0])
-            & is_zero(self.words[1])
-            & is_zero(self.words[2])
-            & is_zero(self.words[3])
-    }
-
-    /// The members that the other set does not have.
-    pub fn without(&self, other: &WorkerSet) -> WorkerSet
-        ensures { (n : ℕ) → Has result n ↔ (Has self.now n × (Has other.now n → ⊥)) }
-    {
-        WorkerSet {
-            words: [
-                word_without(self.words[0], other.words[0]),
-                word_without(self.words[1], other.words[1]),
-                word_without(self.words[2], other.words[2]),
-                word_without(self.words[3], other.words[3]),
-            ],
+        if split.index() / 64 < self.words.len() {
+            set_bit(&mut self.words, split.index());
         }
     }
 
-    /// Whether all members are below the size.
-    pub fn are_below(&self, workers: usize) -> bool
-        ensures { IsTrue result ↔ AreBelow workers self.now }
+    /// Takes all splits out.
+    pub fn clear(&mut self)
+        ensures { self.new ≡ emptied self.old }
     {
-        are_all_below(&self.words, workers)
+        empty(&mut self.words);
     }
 }
 
-/// A set of splits, of which there are at most 1,024.
-#[derive(Clone, Copy, Debug, PartialEq, Eq)]
+/// A set of splits: their numbers, rising. It takes 4 bytes for each member.
+#[derive(Drop)]
 pub struct SplitSet {
-    words: [u64; 16],
+    splits: Vec<SplitNo>,
 }
 
 impl Model for SplitSet {
+    ghost use Rattle.std.specs.Prelude.{List, ℕ};
+    ghost use Rattle.std.specs.List.Sorted.{IsNonDecreasing};
+
     ghost Value = { List ℕ };
 
-    ghost view = { λ s. s.words };
+    ghost view = { λ s. s.splits.items };
 
-    ghost inverse = { λ w. record { words = w } };
+    ghost invariant = { λ s. IsNonDecreasing s.splits.items };
 }
 
 impl SplitSet {
     /// The set without a member.
-    pub fn new() -> Self
-        ensures value { result ≡ no_splits }
-        ensures members { (n : ℕ) → Has result n → ⊥ }
+    pub fn new(alloc: Global) -> SplitSet
+        ensures { result ≡ [] }
     {
-        SplitSet { words: [0; 16] }
+        SplitSet {
+            splits: Vec::new(alloc),
+        }
+    }
+
+    /// The set of these splits, in time n log n.
+    pub fn of(alloc: Global, splits: &[SplitNo]) -> Result<SplitSet, AllocError>
+        ensures { IfOk result (λ set. set ≡ row_of_all splits.now) }
+    {
+        let mut sorted = Vec::with_capacity(alloc, splits.len())?;
+        sorted.extend_from_slice(splits)?;
+        sorted.sort_unstable();
+        let mut set = SplitSet::new(alloc);
+        for split in &sorted {
+            set.put(*split)?;
+        }
+        Ok(set)
     }
 
     /// Whether the split is in the set.
     pub fn has(&self, split: SplitNo) -> bool
-        requires { split < 1024 }
-        ensures { result ≡ has_number self.now split }
+        ensures { result ≡ is_in_row self.now split }
     {
-        has_bit(&self.words, split.index())
+        self.splits.binary_search(&split).is_ok()
     }
 
-    /// Puts the split in, if it is not there.
-    pub fn put(&mut self, split: SplitNo)
-        requires { split < 1024 }
-        ensures value { self.new ≡ with_number self.old split }
-        ensures members { (n : ℕ) → Has self.new n ↔ ((n ≡ split) ⊎ Has self.old n) }
+    /// Puts the split in, if it is not there. The members above it move up.
+    pub fn put(&mut self, split: SplitNo) -> Result<(), AllocError>
+        ensures { OnOk result (self.new ≡ row_with split self.old) }
     {
-        set_bit(&mut self.words, split.index());
+        put_in_row(&mut self.splits, split)
     }
 
-    /// Whether all members are below the size.
+    /// Whether all members are below the number of splits.
     pub fn are_below(&self, splits: usize) -> bool
-        ensures { IsTrue result ↔ AreBelow splits self.now }
+        ensures { IsTrue result ↔ All (λ split. split < splits) self.now }
     {
-        are_all_below(&self.words, splits)
+        for split in &self.splits {
+            if split.index() >= splits {
+                return false;
+            }
+        }
+        true
+    }
+
+    /// The members, rising.
+    pub fn members(&self) -> &[SplitNo]
+        ensures value { result.now ≡ self.now }
+        ensures rising { IsNonDecreasing result.now }
+    {
+        &self.splits
+    }
+}
+
+// Puts the split in the row, if it is not there.
+fn put_in_row(row: &mut Vec<SplitNo>, split: SplitNo) -> Result<(), AllocError>
+    requires { IsNonDecreasing row.old.items }
+    ensures value { OnOk result (row.new.items ≡ row_with split row.old.items) }
+    ensures rising { IsNonDecreasing row.new.items }
+{
+    if let Err(place) = row.binary_search(&split) {
+        row.insert(place, split)?;
+    }
+    Ok(())
+}
+
+/// The members of a set of splits, lent.
+#[derive(Drop)]
+pub struct SplitRow<'a> {
+    splits: &'a [SplitNo],
+}
+
+impl<'a> Model for SplitRow<'a> {
+    ghost use Rattle.std.specs.Prelude.{List, ℕ};
+    ghost use Rattle.std.specs.List.Sorted.{IsNonDecreasing};
+
+    ghost Value = { List ℕ };
+
+    ghost view = { λ r. r.splits.now };
+
+    ghost invariant = { λ r. IsNonDecreasing r.splits.now };
+}
+
+impl<'a> SplitRow<'a> {
+    /// The members of the set.
+    pub fn of(set: &'a SplitSet) -> SplitRow<'a>
+        ensures { result ≡ set.now }
+    {
+        SplitRow {
+            splits: &set.splits,
+        }
+    }
+
+    /// The members, rising.
+    pub fn members(&self) -> &'a [SplitNo]
+        ensures value { result.now ≡ self.now }
+        ensures rising { IsNonDecreasing result.now }
+    {
+        self.splits
+    }
+
+    /// A set of the same members.
+    pub fn to_set(&self, alloc: Global) -> Result<SplitSet, AllocError>
+        ensures { IfOk result (λ set. set ≡ self.now) }
+    {
+        let mut splits = Vec::with_capacity(alloc, self.splits.len())?;
+        splits.extend_from_slice(self.splits)?;
+        Ok(SplitSet { splits })
+    }
+
+    /// Whether both have the same members.
+    pub fn is_same(&self, other: &SplitRow<'_>) -> bool
+        ensures { IsTrue result ↔ (self.now ≡ other.now) }
+    {
+        self.splits == other.splits
     }
 }

@@ -23,11 +23,11 @@ fn told(
 
 #[test]
 fn errors_in_order(rt: HostRuntime) {
-    let nine: &[u16] = &[0, 1, 2, 0, 1, 2, 0, 1, 2];
+    let many: &[u16] = &[0, 1, 2, 0, 1, 2, 0, 1, 2, 0, 1, 2, 0, 1, 2, 0, 1];
     let rows: [(u8, u64, &[u16], Option<ProblemError>); 6] = [
         (255, MAX_BYTES, &[2, 0], None),
         (1, MAX_BYTES + 1, &[0], Some(ProblemError::Limit)),
-        (1, 1, nine, Some(ProblemError::Limit)),
+        (1, 1, many, Some(ProblemError::Limit)),
         (1, MAX_BYTES + 1, &[3], Some(ProblemError::Limit)),
         (1, 1, &[3], Some(ProblemError::Holder)),
         (1, 1, &[1, 0, 1], Some(ProblemError::Holder)),

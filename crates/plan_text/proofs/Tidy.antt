@@ -8,15 +8,20 @@ use Rattle.std.proofs.lemmas.List.Elements.{All-append, All-cons, All-nil, All-w
 use Rattle.std.proofs.lemmas.List.Elements.{Contains-get_or, filter-append}
 use Rattle.std.proofs.lemmas.List.Quantifiers.{all_pairs_push}
 use Rattle.text_lines.specs.Texts.{Line, Word}
-use Rattle.line_shapes.specs.Lines.{Statement}
+use Rattle.line_shapes.specs.Lines.{Statement, tail_words}
 use Rattle.line_shapes.specs.Places.{place_at, places_of}
 use Rattle.line_shapes.specs.declared.keyword.Keyword.{Keyword}
-use Rattle.line_shapes.specs.declared.keyword.Keyword.TheVariants.{Centre, Rack, Split, Worker}
+use Rattle.line_shapes.specs.declared.keyword.Keyword.TheVariants.{Add, Backup, Centre, Copies, Die, Doc}
+use Rattle.line_shapes.specs.declared.keyword.Keyword.TheVariants.{Done}
+use Rattle.line_shapes.specs.declared.keyword.Keyword.TheVariants.{Fail, Join, Lose, Rack, Reduce, Split}
+use Rattle.line_shapes.specs.declared.keyword.Keyword.TheVariants.{Sweep}
+use Rattle.line_shapes.specs.declared.keyword.Keyword.TheVariants.{Wave, Withdraw, Worker}
 use Rattle.line_shapes.specs.declared.place.Kind.{Kind}
 use Rattle.line_shapes.specs.declared.place.Kind.TheVariants.{Priced}
 use Rattle.line_shapes.specs.declared.place.Place.{Place}
 use Rattle.line_shapes.specs.declared.place.Place.TheVariants.{Used}
-use Rattle.line_rules.specs.Entering.{Key, entered_of, key_of, limit_in, most_of, most_workers}
+use Rattle.line_rules.specs.Entering.{Key, entered_of, key_of, most_holders, most_more_of, most_of}
+use Rattle.line_rules.specs.Entering.{most_workers, newer_limit}
 use Rattle.line_rules.specs.Faults.{IsFewer, IsDeclaredIn, IsFew, IsFit, IsFirst, Keep}
 use Rattle.line_rules.specs.Known.{HasRow, IsDeclared, Known, entered, is_of, keys_of, known_at, rows_of}
 use Rattle.line_rules.specs.Reading.{AreFitLines, IsAllRead}
@@ -89,38 +94,59 @@ few-more : (purpose : Purpose) (k : Keyword) (rows : List Statement) (s : Statem
 few-more purpose k rows s few room = grind (arith, keyword_of, few-one, count-more)
 
 -- the greater limit holds in the newest version, if in any
-limit-newest : (version : Version) (purpose : Purpose) (less more : ℕ) → less ≤ more
-    → limit_in version purpose less more ≤ limit_in Three purpose less more
-limit-newest One Checking less more few = few
-limit-newest Two Checking less more few = few
-limit-newest Three Checking less more few = omega arith
-limit-newest One Planning less more few = few
-limit-newest Two Planning less more few = few
-limit-newest Three Planning less more few = omega arith
-limit-newest version Playing less more few = omega arith
-limit-newest version Running less more few = omega arith
+newer-newest : (version : Version) (less more : ℕ) → less ≤ more
+    → newer_limit version less more ≤ newer_limit Three less more
+newer-newest One less more few = few
+newer-newest Two less more few = few
+newer-newest Three less more few = omega arith
 
 workers-newest : (version : Version) (purpose : Purpose)
     → most_workers version purpose ≤ most_workers Three purpose
-workers-newest version Running = omega arith
-workers-newest version Checking = limit-newest version Checking 256 32768 (omega arith)
-workers-newest version Planning = limit-newest version Planning 256 32768 (omega arith)
-workers-newest version Playing = omega arith
+workers-newest version Running = newer-newest version 32 1024 (omega arith)
+workers-newest version Playing = newer-newest version 256 32768 (omega arith)
+workers-newest version Checking = newer-newest version 256 32768 (omega arith)
+workers-newest version Planning = newer-newest version 256 32768 (omega arith)
 
 fewer-more : (few many n : ℕ) → few ≤ many → n < few → n < many
 fewer-more few many n le lt = omega (arith, le, lt)
+
+lines-newest : (version : Version) (n : ℕ) → n < newer_limit version 65536 1048576
+    → n < newer_limit Three 65536 1048576
+lines-newest version n room = fewer-more _ _ n (newer-newest version 65536 1048576 (omega arith)) room
 
 -- where there is room for one more, there is in the newest version
 fewer-newest : (version : Version) (purpose : Purpose) (k : Keyword) (n : ℕ)
     → IsFewer (most_of version purpose k) n → IsFewer (most_of Three purpose k) n
 fewer-newest version purpose Centre n room =
-    fewer-more _ _ n (limit-newest version purpose 8 256 (omega arith)) room
+    fewer-more _ _ n (newer-newest version 8 256 (omega arith)) room
 fewer-newest version purpose Rack n room =
-    fewer-more _ _ n (limit-newest version purpose 32 4096 (omega arith)) room
+    fewer-more _ _ n (newer-newest version 32 4096 (omega arith)) room
 fewer-newest version purpose Worker n room = fewer-more _ _ n (workers-newest version purpose) room
 fewer-newest version purpose Split n room =
-    fewer-more _ _ n (limit-newest version purpose 1024 131072 (omega arith)) room
+    fewer-more _ _ n (newer-newest version 1024 131072 (omega arith)) room
+fewer-newest version purpose Doc n room = lines-newest version n room
+fewer-newest version purpose Wave n room = lines-newest version n room
+fewer-newest version purpose Done n room = lines-newest version n room
+fewer-newest version purpose Fail n room = lines-newest version n room
+fewer-newest version purpose Withdraw n room = lines-newest version n room
+fewer-newest version purpose Die n room = lines-newest version n room
+fewer-newest version purpose Join n room = lines-newest version n room
+fewer-newest version purpose Add n room = lines-newest version n room
+fewer-newest version purpose Lose n room = lines-newest version n room
+fewer-newest version purpose Sweep n room = lines-newest version n room
+fewer-newest version purpose Reduce n room = lines-newest version n room
+fewer-newest version purpose Copies n room = lines-newest version n room
+fewer-newest version purpose Backup n room = lines-newest version n room
 fewer-newest version purpose k n room = room
+
+-- and where no more words follow than may, they are no more than may in the newest version
+holders-newest : (version : Version) → most_holders version ≤ most_holders Three
+holders-newest version = newer-newest version 8 16 (omega arith)
+
+few-newest : (version : Version) (k : Keyword) (n : ℕ) → IsFew (most_more_of version k) n
+    → IsFew (most_more_of Three k) n
+few-newest version Split n few = omega (arith, few, holders-newest version)
+few-newest version k n few = few
 
 fresh : (rows : List Statement) (s : Statement) → IsFirst rows s → (i : ℕ) (d : Key) →
     i < length (keys_of rows)
@@ -136,7 +162,7 @@ tidy_of k s whole fit = record {
   named = named_long k.version s fit.named;
   known = fit.known;
   in_range = fit.in_range.places;
-  few = fit.within_limit.few;
+  few = few-newest k.version s.keyword (length (tail_words s)) fit.within_limit.few;
   tail_apart = fit.tail_apart;
 }
 

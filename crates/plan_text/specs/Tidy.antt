@@ -10,6 +10,7 @@ use Rattle.line_shapes.specs.declared.keyword.Keyword.TheVariants as keyword
 use Rattle.line_rules.specs.Entering.{most_more_of}
 use Rattle.line_rules.specs.Faults.{IsFew, Keep}
 use Rattle.line_rules.specs.Known.{keys_of, rows_of}
+use Rattle.line_rules.specs.declared.edition.Version.TheVariants.{Three}
 use Rattle.line_rules.specs.declared.rule.Rule.TheVariants as rule
 use Rattle.plan_text.specs.Names.{nth_word}
 
@@ -19,7 +20,7 @@ pub record IsTidyRow (rows : List Statement) (s : Statement) : Type 0 where
   pub named : Meet LongName s.keyword s.words
   pub known : Keep rule.Declared rows s
   pub in_range : IsInRange s
-  pub few : IsFew (most_more_of s.keyword) (length (tail_words s))
+  pub few : IsFew (most_more_of Three s.keyword) (length (tail_words s))
   pub tail_apart : HasTailApart s
 
 -- no more lines of a keyword than a text may have, and none entered twice
@@ -28,7 +29,7 @@ pub record AreTidy (rows : List Statement) : Type 0 where
   pub few_racks : length (rows_of keyword.Rack rows) ≤ 4096
   pub few_workers : length (rows_of keyword.Worker rows) ≤ 32768
   pub few_splits : length (rows_of keyword.Split rows) ≤ 131072
-  pub few_documents : length (rows_of keyword.Doc rows) ≤ 65536
+  pub few_documents : length (rows_of keyword.Doc rows) ≤ 1048576
   pub differ : AllPairs (λ a b. a ≢ b) (keys_of rows)
   pub each : All (IsTidyRow rows) rows
 
@@ -47,7 +48,7 @@ pub record IsTidySplit (workers : List Word) (s : Statement) : Type 0 where
   pub is_split : s.keyword ≡ keyword.Split
   pub whole : 2 ≤ length s.words
   pub bytes : IsAtMost (nth_word 1 s) 8589934592
-  pub few_holders : length (tail_words s) ≤ 8
+  pub few_holders : length (tail_words s) ≤ 16
   pub holders : All (Contains workers) (tail_words s)
   pub holders_differ : AllPairs (λ a b. a ≢ b) (tail_words s)
 

@@ -1,2 +1,6 @@
-mod Changing
-mod Turning
+pub mod Bare
+pub mod Following
+pub mod Hearing
+pub mod Told
+pub mod Rise
+pub mod Written

@@ -4,14 +4,13 @@ use Rattle.std.specs.Prelude.{ℕ, ◌+◌, ◌-◌, List, [], ◌∷◌, ◌++�
 use Rattle.std.specs.Prelude.{slice_index_or}
 use Rattle.std.specs.Fmt.{decimal}
 use Rattle.std.specs.List.{flat_map, range_with_len}
-use Rattle.node_ids.specs.Sets.{has_number}
 use Rattle.text_lines.specs.Texts.{Word, name_of, numbers_of}
 use Rattle.master_state.specs.declared.events.Event.{Event}
 use Rattle.master_state.specs.declared.events.Event.TheVariants as events
 use Rattle.master_state.specs.declared.states.Start.{Start}
 use Rattle.master_state.specs.declared.states.Work.{Work}
 use Rattle.master_state.specs.declared.states.Work.TheVariants as work
-use Rattle.report_lines.specs.Lines.{backup_line, lines_of_those, reduce_line, started_line}
+use Rattle.report_lines.specs.Lines.{backup_line, reduce_line, started_line}
 use Rattle.text_lines.specs.WaveLine.{wave_line}
 
 -- what has become of an attempt
@@ -27,11 +26,10 @@ abbrev pub pair_line : List ℕ → List Word → List Word → ℕ → ℕ → 
 pair_line word splits workers split w =
     word ++ name_of splits split ++ codes " " ++ name_of workers w ++ 10 ∷ []
 
--- a worker, then the splits of a set by number
+-- a worker, then the splits of a set, in whose row they rise
 abbrev pub join_line : List Word → List Word → ℕ → List ℕ → List ℕ
 join_line splits workers w set =
-    codes "join " ++ name_of workers w
-    ++ lines_of_those (has_number set) (λ split. 32 ∷ name_of splits split) (numbers_of splits) ++ 10 ∷ []
+    codes "join " ++ name_of workers w ++ flat_map (λ split. 32 ∷ name_of splits split) set ++ 10 ∷ []
 
 -- the count of each worker, by number
 abbrev pub sweep_line : List Word → List ℕ → List ℕ

@@ -3,7 +3,6 @@ use Rattle.std.specs.Prelude.{ℕ, List, [], ◌∷◌, ◌++◌, Bool, not, if�
 use Rattle.std.specs.Prelude.{slice_index_or}
 use Rattle.std.specs.Fmt.{decimal}
 use Rattle.std.specs.List.{flat_map}
-use Rattle.node_ids.specs.Sets.{has_number}
 use Rattle.text_lines.specs.Texts.{Word, name_of, numbers_of}
 use Rattle.word_map.specs.Entries.{EntryView}
 use Rattle.block_map.specs.declared.CopyOrder.{CopyOrder}
@@ -28,7 +27,7 @@ number_of_reason why.DeadWorker = 2
 number_of_reason why.LiveWorker = 3
 number_of_reason why.AlreadyHolds = 4
 number_of_reason why.NotHolder = 5
-number_of_reason why.EightHolders = 6
+number_of_reason why.ManyHolders = 6
 number_of_reason why.NotReady = 7
 number_of_reason why.WrongInput = 8
 number_of_reason why.HistoryFull = 9
@@ -69,9 +68,9 @@ reduce_line workers attempt part w =
 abbrev pub dead_line : List Word → ℕ → List ℕ
 dead_line workers w = codes "dead " ++ name_of workers w ++ 10 ∷ []
 
--- those who are in the set, by number
+-- a line for each of these
 abbrev pub dead_lines : List Word → List ℕ → List ℕ
-dead_lines workers dead = lines_of_those (has_number dead) (dead_line workers) (numbers_of workers)
+dead_lines workers dead = flat_map (dead_line workers) dead
 
 -- ---- copy orders
 

@@ -1,7 +1,12 @@
--- A turn of a report: what stands before some orders, and these orders.
+-- Turns of a report.
 use Rattle.std.specs.Prelude.{ℕ, List}
-use Rattle.block_map.specs.declared.CopyOrder.{CopyOrder}
 
+-- what stands before the orders of a `copies`, and how many events came before it
 pub record ToldTurn : Type 0 where
   pub before : List ℕ
-  pub orders : List CopyOrder
+  pub events : ℕ
+
+-- all turns, and how many events had come when the last one was made
+pub record ToldTurns : Type 0 where
+  pub each : List ToldTurn
+  pub seen : ℕ

@@ -1,13 +1,12 @@
-ghost use Rattle.std.specs.Prelude.{◌≡◌, ◌≤◌, ◌++◌, OnOk, [], if◌then◌else◌, length, string_bytes};
+ghost use Rattle.std.specs.Prelude.{◌≡◌, ◌++◌, OnOk, string_bytes};
 ghost use Rattle.report_lines.specs.Lines.{accepted_line, answer_line, backup_line, copy_line, copy_lines};
 ghost use Rattle.report_lines.specs.Lines.{dead_line, dead_lines, ignored_line, number_of_reason};
 ghost use Rattle.report_lines.specs.Lines.{reduce_line, started_line};
 ghost use Rattle.text_lines.specs.WaveLine.{wave_line};
-ghost use Rattle.text_lines.specs.Texts.{name_of};
 
 use block_map::CopyOrder;
 use master_state::{Answer, Why};
-use node_ids::{AttemptNo, PartNo, SplitNo, WorkerNo, WorkerSet};
+use node_ids::{AttemptNo, PartNo, SplitNo, WorkerNo};
 use std::alloc::AllocError;
 use text_lines::NameTable;
 
@@ -129,37 +128,31 @@ pub(crate) fn add_reduce_of(
     write!(lines, "reduce {attempt} {part} {worker}\n")
 }
 
-/// A line for each worker of the set, by number.
+/// A line for each worker that died.
 pub fn add_dead(
     lines: &mut String,
     workers: &NameTable<'_>,
-    dead: &WorkerSet,
+    dead: &[WorkerNo],
 ) -> Result<(), AllocError>
-    requires { length workers.now ≤ 256 }
     ensures { OnOk result (string_bytes lines.new ≡ string_bytes lines.old
         ++ dead_lines workers.now dead.now) }
 {
-    for number in 0..workers.len() {
-        let is_dead = dead.has(WorkerNo::new(number as u16));
-        add_death(lines, workers, number, is_dead)?;
+    for worker in dead {
+        add_death(lines, workers, *worker)?;
     }
     Ok(())
 }
 
-// A line for a worker that died.
+// The line of a worker that died.
 fn add_death(
     lines: &mut String,
     workers: &NameTable<'_>,
-    number: usize,
-    is_dead: bool,
+    worker: WorkerNo,
 ) -> Result<(), AllocError>
     ensures { OnOk result (string_bytes lines.new
-        ≡ string_bytes lines.old ++ (if is_dead then dead_line workers.now number else [])) }
+        ≡ string_bytes lines.old ++ dead_line workers.now worker) }
 {
-    if !is_dead {
-        return Ok(());
-    }
-    let worker = workers.name_or_empty(number);
+    let worker = workers.name_or_empty(worker.index());
     write!(lines, "dead {worker}\n")
 }
 

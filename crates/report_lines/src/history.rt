@@ -1,5 +1,4 @@
-ghost use Rattle.std.specs.Prelude.{◌≡◌, ◌≤◌, ◌+◌, ◌++◌, ◌∷◌, OnOk, [], if◌then◌else◌, length, string_bytes};
-ghost use Rattle.std.specs.Prelude.{◌-◌, ◌<◌, slice_get, slice_index_or};
+ghost use Rattle.std.specs.Prelude.{◌≡◌, ◌++◌, ◌∷◌, ◌-◌, OnOk, slice_get, slice_index_or, string_bytes};
 ghost use Rattle.std.specs.Fmt.{decimal};
 ghost use Rattle.report_lines.specs.History.{attempt_line, event_lines, history_lines, join_line, pair_line};
 ghost use Rattle.report_lines.specs.History.{start_line, start_lines, sweep_line, sweep_lines, worker_line};
@@ -8,7 +7,7 @@ ghost use Rattle.text_lines.specs.Texts.{name_of};
 use crate::answers::{add_backup, add_reduce, add_reduce_of, add_start_of, add_wave};
 use compact_lists::{CountList, Counts, EventList};
 use master_state::{Event, Start, Work};
-use node_ids::{AttemptNo, SplitNo, SplitSet, WorkerNo};
+use node_ids::{AttemptNo, SplitNo, SplitRow, WorkerNo};
 use std::alloc::AllocError;
 use text_lines::NameTable;
 
@@ -22,13 +21,12 @@ pub fn add_history(
     sweeps: &CountList,
     history: &EventList,
 ) -> Result<(), AllocError>
-    requires { length splits.now ≤ 1024 }
     ensures { OnOk result (string_bytes lines.new ≡ string_bytes lines.old
         ++ history_lines splits.now workers.now starts.now sweeps.now.items history.now.items) }
 {
     for index in 0..history.len() {
         let event = history.at(index);
-        add_event(lines, splits, workers, starts, sweeps, &event)?;
+        add_event(lines, splits, workers, starts, sweeps, event)?;
     }
     Ok(())
 }
@@ -39,13 +37,12 @@ fn add_event(
     workers: &NameTable<'_>,
     starts: &[Start],
     sweeps: &CountList,
-    event: &Event,
+    event: Event<'_>,
 ) -> Result<(), AllocError>
-    requires { length splits.now ≤ 1024 }
     ensures { OnOk result (string_bytes lines.new ≡ string_bytes lines.old
-        ++ event_lines splits.now workers.now starts.now sweeps.now.items event.now) }
+        ++ event_lines splits.now workers.now starts.now sweeps.now.items event.entry) }
 {
-    match *event {
+    match event {
         Event::Wave { first, count, cost } => {
             add_wave(lines, count, cost)?;
             add_starts(lines, splits, workers, starts, first, count)
@@ -112,34 +109,24 @@ fn add_join(
     splits: &NameTable<'_>,
     workers: &NameTable<'_>,
     worker: WorkerNo,
-    set: &SplitSet,
+    set: &SplitRow<'_>,
 ) -> Result<(), AllocError>
-    requires { length splits.now ≤ 1024 }
     ensures { OnOk result (string_bytes lines.new
         ≡ string_bytes lines.old ++ join_line splits.now workers.now worker set.now) }
 {
     let worker = workers.name_or_empty(worker.index());
     write!(lines, "join {worker}")?;
-    for number in 0..splits.len() {
-        let is_held = set.has(SplitNo::new(number as u32));
-        add_member(lines, splits, number, is_held)?;
+    for split in set.members() {
+        add_member(lines, splits, *split)?;
     }
     write!(lines, "\n")
 }
 
-fn add_member(
-    lines: &mut String,
-    splits: &NameTable<'_>,
-    number: usize,
-    is_held: bool,
-) -> Result<(), AllocError>
+fn add_member(lines: &mut String, splits: &NameTable<'_>, split: SplitNo) -> Result<(), AllocError>
     ensures { OnOk result (string_bytes lines.new
-        ≡ string_bytes lines.old ++ (if is_held then 32 ∷ name_of splits.now number else [])) }
+        ≡ string_bytes lines.old ++ 32 ∷ name_of splits.now split) }
 {
-    if !is_held {
-        return Ok(());
-    }
-    let split = splits.name_or_empty(number);
+    let split = splits.name_or_empty(split.index());
     write!(lines, " {split}")
 }
 

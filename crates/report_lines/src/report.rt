@@ -1,22 +1,24 @@
-ghost use Rattle.std.specs.Prelude.{◌≡◌, ◌++◌, [], IfOk, List, OnOk, string_bytes, ℕ};
+ghost use Rattle.std.specs.Prelude.{◌≡◌, ◌≤◌, ◌++◌, [], IfOk, List, OnErr, OnOk, length, string_bytes, ℕ};
 ghost use Rattle.text_lines.specs.Texts.{Word};
 ghost use Rattle.report_lines.specs.Lines.{copy_lines};
-ghost use Rattle.report_lines.specs.Reports.{made_bytes, report_bytes};
+ghost use Rattle.report_lines.specs.Past.{PastView, copies_at};
+ghost use Rattle.report_lines.specs.Reports.{made_bytes, report_bytes, turns_bytes};
+ghost use Rattle.text_lines.specs.Streams.{AppendsFront, Moves};
+ghost use Rattle.report_lines.specs.Rising.{IsRising};
 
 use crate::own_names::OwnNames;
+use crate::past::Past;
 use crate::turns::Turns;
-use block_map::CopyOrder;
 use command_runner::{AnswerLines, Piece};
 use std::alloc::{AllocError, Global};
 use std::io::Write;
 use std::mem::replace;
 use text_lines::{NameTable, WriteError};
 
-/// The lines of a report while it is made. The lines of copies are kept as what differs in their orders from
-/// those of the `copies` before.
+/// The lines of a report while it is made. Of a `copies` is kept how many events came before it.
 #[derive(Drop)]
 pub struct ReportLines {
-    turns: Turns,
+    pub turns: Turns,
     /// The lines since the last orders.
     pub last: String,
 }
@@ -24,7 +26,9 @@ pub struct ReportLines {
 impl ReportLines {
     /// No lines.
     pub fn new(alloc: Global) -> ReportLines
-        ensures { (splits workers : List Word) → report_bytes splits workers result ≡ [] }
+        ensures lines { (splits workers : List Word) (past : PastView)
+            → report_bytes splits workers past result ≡ [] }
+        ensures seen { result.turns.seen ≡ 0 }
     {
         ReportLines {
             turns: Turns::new(alloc),
@@ -32,15 +36,26 @@ impl ReportLines {
         }
     }
 
-    /// How many copies are ordered, and which.
-    pub fn add_copies(&mut self, alloc: Global, orders: Vec<CopyOrder>) -> Result<(), AllocError>
-        ensures { (splits workers : List Word) → OnOk result (report_bytes splits workers self.new
-            ≡ report_bytes splits workers self.old ++ copy_lines splits workers orders.items) }
+    /// A law of the lines: no `copies` had fewer events before it than the one before.
+    pub fn are_in_turn(&self)
+        ensures { IsRising 0 self.now.turns.each self.now.turns.seen }
     {
-        let count = orders.len();
+        self.turns.are_in_turn();
+    }
+
+    /// A `copies` after so many events, which orders so many copies.
+    pub fn add_copies(&mut self, alloc: Global, count: usize, events: u32) -> Result<(), AllocError>
+        requires { self.old.turns.seen ≤ events }
+        ensures seen { OnOk result (self.new.turns.seen ≡ events) }
+        ensures lines { (splits workers : List Word) (past : PastView)
+            → count ≡ length (copies_at past events)
+            → OnOk result (report_bytes splits workers past self.new
+            ≡ report_bytes splits workers past self.old
+            ++ copy_lines splits workers (copies_at past events)) }
+    {
         write!(self.last, "copies {count}\n")?;
         let before = replace(&mut self.last, String::new(alloc));
-        self.turns.push(alloc, before, orders)
+        self.turns.push(before, events)
     }
 }
 
@@ -50,23 +65,28 @@ pub struct MadeReport {
     splits: OwnNames,
     workers: OwnNames,
     lines: ReportLines,
+    /// Of what the orders of its copies are told; a text in place of a report has none.
+    past: Option<Past>,
     piece: Piece,
 }
 
 impl MadeReport {
-    /// The report of these lines, by these names.
+    /// The report of these lines, by these names, whose copies are told of this past.
     pub fn new(
         alloc: Global,
         splits: &NameTable<'_>,
         workers: &NameTable<'_>,
         lines: ReportLines,
+        past: Past,
     ) -> Result<MadeReport, AllocError>
-        ensures { IfOk result (λ made. made_bytes made ≡ report_bytes splits.now workers.now lines) }
+        ensures { IfOk result (λ made.
+            made_bytes made ≡ report_bytes splits.now workers.now past lines) }
     {
         Ok(MadeReport {
             splits: OwnNames::of(alloc, splits)?,
             workers: OwnNames::of(alloc, workers)?,
             lines,
+            past: Some(past),
             piece: Piece::new(alloc)?,
         })
     }
@@ -83,6 +103,7 @@ impl MadeReport {
             splits: OwnNames::none(alloc),
             workers: OwnNames::none(alloc),
             lines,
+            past: None,
             piece: Piece::new(alloc)?,
         })
     }
@@ -96,10 +117,31 @@ impl AnswerLines for MadeReport {
             splits,
             workers,
             lines,
+            past,
             mut piece,
         } = self;
-        lines.turns.put(&mut piece, writer, &splits, &workers)?;
+        put_turns(&mut piece, writer, &splits, &workers, &lines.turns, past)?;
         piece.put(writer, lines.last.as_bytes())?;
         piece.finish(writer)
+    }
+}
+
+// The lines of all turns, where there is a past.
+fn put_turns<W: Write>(
+    piece: &mut Piece,
+    writer: &mut W,
+    splits: &OwnNames,
+    workers: &OwnNames,
+    turns: &Turns,
+    past: Option<Past>,
+) -> Result<(), WriteError>
+    ensures ok { OnOk result (Moves (W.contents writer.old) (W.contents writer.new)
+        (piece.old ++ turns_bytes splits.now workers.now past turns.now.each) piece.new) }
+    ensures err { OnErr result (AppendsFront (W.contents writer.old) (W.contents writer.new)
+        (piece.old ++ turns_bytes splits.now workers.now past turns.now.each)) }
+{
+    match past {
+        Some(past) => turns.put(piece, writer, splits, workers, past),
+        None => Ok(()),
     }
 }

@@ -1,5 +1,6 @@
 ghost use Rattle.std.specs.Prelude.{◌≡◌, ◌<◌, ◌≤◌, ◌++◌, OnOk, length, string_bytes};
 ghost use Rattle.worker_table.specs.Workers.{worker_at};
+ghost use Rattle.master_state.specs.declared.TheConstants.{MAX_JOB_SPLITS};
 ghost use Rattle.report_lines.specs.Standing.{backup_lines, open_part, open_part_lines, open_split};
 ghost use Rattle.report_lines.specs.Standing.{open_split_lines, output_lines, output_of, standing_line};
 ghost use Rattle.report_lines.specs.Standing.{workers_lines};
@@ -55,7 +56,7 @@ pub fn add_open_splits(
     workers: &NameTable<'_>,
     states: &[SplitState],
 ) -> Result<(), AllocError>
-    requires { length states.now ≤ 1024 }
+    requires { length states.now ≤ MAX_JOB_SPLITS }
     ensures { OnOk result (string_bytes lines.new
         ≡ string_bytes lines.old ++ open_split_lines splits.now workers.now states.now) }
 {

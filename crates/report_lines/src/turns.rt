@@ -1,112 +1,82 @@
 //! What stands in a report up to the orders of its last `copies`.
-ghost use Rattle.std.specs.Prelude.{◌≡◌, ◌<◌, ◌++◌, ◌∷◌, [], IsTrue, OnErr, OnOk, length, string_bytes};
+ghost use Rattle.std.specs.Prelude.{◌≡◌, ◌<◌, ◌≤◌, ◌++◌, ◌∷◌, [], OnErr, OnOk, length, string_bytes};
 ghost use Rattle.std.specs.List.{flat_map};
 ghost use Rattle.text_lines.specs.Streams.{AppendsFront, Moves};
+ghost use Rattle.block_map.specs.Copies.{copy_at, holdings, one_or_none};
 ghost use Rattle.report_lines.specs.Lines.{copy_line};
-ghost use Rattle.report_lines.specs.Reports.{turn_lines};
-ghost use Rattle.report_lines.specs.Routes.{orders_at, orders_in};
-ghost use Rattle.report_lines.specs.Turns.{orders_told, routes_after, routes_then, told};
+ghost use Rattle.report_lines.specs.Past.{IsSound, copies_of};
+ghost use Rattle.report_lines.specs.Reports.{turns_lines};
+ghost use Rattle.report_lines.specs.Rising.{IsRising};
 
 use crate::own_names::OwnNames;
-use crate::routes::{Changes, Routes};
+use crate::past::Past;
+use crate::replaying::go_on;
+use crate::tables::{Story, Tables};
 use block_map::CopyOrder;
 use command_runner::Piece;
+use node_ids::SplitNo;
 use std::alloc::{AllocError, Global};
 use std::io::Write;
 use std::marker::Model;
 use text_lines::WriteError;
 
-/// The orders of a `copies`.
-#[derive(Drop)]
-pub enum Orders {
-    /// Those that the routes tell after these changes.
-    Changed(Changes),
-    /// Orders that have no routes.
-    Whole(Vec<CopyOrder>),
-}
-
-/// What stands in a report from one `copies` to the orders of the next one, and these orders.
+/// What stands in a report from one `copies` to the orders of the next one, and how many events came before
+/// these.
 #[derive(Drop)]
 pub struct Turn {
     before: String,
-    orders: Orders,
+    events: u32,
 }
 
-/// All turns of a report. Of their orders is kept how they differ from those of the turn before.
+/// All turns of a report.
 #[derive(Drop)]
 pub struct Turns {
     turns: Vec<Turn>,
-    /// The routes after the last turn.
-    routes: Routes,
+    /// How many events came before the last turn.
+    seen: u32,
 }
 
 impl Model for Turns {
-    ghost use Rattle.std.specs.Prelude.{List};
-    ghost use Rattle.report_lines.specs.ToldTurn.{ToldTurn};
+    ghost use Rattle.report_lines.specs.ToldTurn.{ToldTurns};
 
-    ghost Value = { List ToldTurn };
+    ghost Value = { ToldTurns };
 
-    ghost use Rattle.report_lines.specs.Turns.{all_told, AreRoutesOfAll};
+    ghost use Rattle.report_lines.specs.Turns.{all_told, AreInTurn};
 
     ghost view = { all_told };
 
-    ghost invariant = { AreRoutesOfAll };
+    ghost invariant = { AreInTurn };
 }
 
 impl Turns {
     /// No turn.
     pub(crate) fn new(alloc: Global) -> Turns
-        ensures { result ≡ [] }
+        ensures { result ≡ record { each = []; seen = 0 } }
     {
         Turns {
             turns: Vec::new(alloc),
-            routes: Routes::none(),
+            seen: 0,
         }
+    }
+
+    /// A law of turns: no turn had fewer events than the one before.
+    pub(crate) fn are_in_turn(&self)
+        ensures { IsRising 0 self.now.each self.now.seen }
+    {
+        // (a look at a field shows it)
+        let _seen = self.seen;
     }
 
     /// Adds a turn.
-    pub(crate) fn push(
-        &mut self,
-        alloc: Global,
-        before: String,
-        orders: Vec<CopyOrder>,
-    ) -> Result<(), AllocError>
-        ensures { OnOk result (self.new ≡ self.old
-            ++ record { before = string_bytes before; orders = orders.items } ∷ []) }
+    pub(crate) fn push(&mut self, before: String, events: u32) -> Result<(), AllocError>
+        requires { self.old.seen ≤ events }
+        ensures { OnOk result (self.new ≡ record {
+          each = self.old.each ++ record { before = string_bytes before; events = events } ∷ [];
+          seen = events;
+        }) }
     {
-        let next = self.routes.of_orders(orders.as_slice());
-        let told = next.orders(alloc)?;
-        if are_same(told.as_slice(), orders.as_slice()) {
-            self.push_routes(alloc, before, &next)
-        } else {
-            self.push_whole(before, orders)
-        }
-    }
-
-    // Adds a turn with the orders that the routes tell.
-    fn push_routes(
-        &mut self,
-        alloc: Global,
-        before: String,
-        next: &Routes,
-    ) -> Result<(), AllocError>
-        ensures { OnOk result (self.new ≡ self.old
-            ++ record { before = string_bytes before; orders = orders_in next.now } ∷ []) }
-    {
-        let changes = self.routes.changes_to(alloc, next)?;
-        let orders = Orders::Changed(changes);
-        self.turns.push(Turn { before, orders })?;
-        self.routes = *next;
-        Ok(())
-    }
-
-    // Adds a turn whose orders are kept as they are.
-    fn push_whole(&mut self, before: String, orders: Vec<CopyOrder>) -> Result<(), AllocError>
-        ensures { OnOk result (self.new ≡ self.old
-            ++ record { before = string_bytes before; orders = orders.items } ∷ []) }
-    {
-        let orders = Orders::Whole(orders);
-        self.turns.push(Turn { before, orders })?;
+        self.turns.push(Turn { before, events })?;
+        self.seen = events;
         Ok(())
     }
 
@@ -117,125 +87,99 @@ impl Turns {
         writer: &mut W,
         splits: &OwnNames,
         workers: &OwnNames,
+        past: Past,
     ) -> Result<(), WriteError>
         ensures ok { OnOk result (Moves (W.contents writer.old) (W.contents writer.new)
-            (piece.old ++ flat_map (turn_lines splits.now workers.now) self.now) piece.new) }
+            (piece.old ++ turns_lines splits.now workers.now past self.now.each) piece.new) }
         ensures err { OnErr result (AppendsFront (W.contents writer.old) (W.contents writer.new)
-            (piece.old ++ flat_map (turn_lines splits.now workers.now) self.now)) }
+            (piece.old ++ turns_lines splits.now workers.now past self.now.each)) }
     {
-        let mut routes = Routes::none();
+        let (story, mut tables) = past.into_parts();
+        let mut done = 0;
         for turn in &self.turns {
-            put_turn(piece, writer, splits, workers, &mut routes, turn)?;
+            let events = turn.events as usize;
+            go_on(&mut tables, &story, done, events);
+            put_turn(piece, writer, splits, workers, &story, &tables, turn)?;
+            done = events;
         }
         Ok(())
     }
 }
 
-fn are_same(orders: &[CopyOrder], others: &[CopyOrder]) -> bool
-    ensures { IsTrue result → orders.now ≡ others.now }
-{
-    orders == others
-}
-
-// The lines of a turn, where these are the routes before it. They become those after it.
+// The lines of a turn, where these are the tables after its events.
 fn put_turn<W: Write>(
     piece: &mut Piece,
     writer: &mut W,
     splits: &OwnNames,
     workers: &OwnNames,
-    routes: &mut Routes,
+    story: &Story,
+    tables: &Tables,
     turn: &Turn,
 ) -> Result<(), WriteError>
-    ensures routes { OnOk result (routes.new ≡ routes_after routes.old turn.now) }
+    requires { IsSound story.now.tree tables.now }
     ensures ok { OnOk result (Moves (W.contents writer.old) (W.contents writer.new)
-        (piece.old ++ turn_lines splits.now workers.now (told routes.old turn.now)) piece.new) }
+        (piece.old ++ (string_bytes turn.now.before ++ flat_map (copy_line splits.now workers.now)
+        (copies_of story.now.tree story.now.target tables.now))) piece.new) }
     ensures err { OnErr result (AppendsFront (W.contents writer.old) (W.contents writer.new)
-        (piece.old ++ turn_lines splits.now workers.now (told routes.old turn.now))) }
+        (piece.old ++ (string_bytes turn.now.before ++ flat_map (copy_line splits.now workers.now)
+        (copies_of story.now.tree story.now.target tables.now)))) }
 {
     piece.put(writer, turn.before.as_bytes())?;
-    put_orders(piece, writer, splits, workers, routes, &turn.orders)
+    put_copies(piece, writer, splits, workers, story, tables)
 }
 
-fn put_orders<W: Write>(
-    piece: &mut Piece,
-    writer: &mut W,
-    splits: &OwnNames,
-    workers: &OwnNames,
-    routes: &mut Routes,
-    orders: &Orders,
-) -> Result<(), WriteError>
-    ensures routes { OnOk result (routes.new ≡ routes_then routes.old orders.now) }
-    ensures ok { OnOk result (Moves (W.contents writer.old) (W.contents writer.new)
-        (piece.old ++ flat_map (copy_line splits.now workers.now) (orders_told routes.old orders.now))
-        piece.new) }
-    ensures err { OnErr result (AppendsFront (W.contents writer.old) (W.contents writer.new)
-        (piece.old ++ flat_map (copy_line splits.now workers.now) (orders_told routes.old orders.now))) }
-{
-    match orders {
-        Orders::Changed(changes) => {
-            routes.apply(changes);
-            put_routes(piece, writer, splits, workers, routes)
-        }
-        Orders::Whole(orders) => put_copies(piece, writer, splits, workers, orders.as_slice()),
-    }
-}
-
-// A line for each split that is copied.
-fn put_routes<W: Write>(
-    piece: &mut Piece,
-    writer: &mut W,
-    splits: &OwnNames,
-    workers: &OwnNames,
-    routes: &Routes,
-) -> Result<(), WriteError>
-    ensures ok { OnOk result (Moves (W.contents writer.old) (W.contents writer.new)
-        (piece.old ++ flat_map (copy_line splits.now workers.now) (orders_in routes.now)) piece.new) }
-    ensures err { OnErr result (AppendsFront (W.contents writer.old) (W.contents writer.new)
-        (piece.old ++ flat_map (copy_line splits.now workers.now) (orders_in routes.now))) }
-{
-    for split in 0..routes.splits() {
-        put_route(piece, writer, splits, workers, routes, split)?;
-    }
-    Ok(())
-}
-
-fn put_route<W: Write>(
-    piece: &mut Piece,
-    writer: &mut W,
-    splits: &OwnNames,
-    workers: &OwnNames,
-    routes: &Routes,
-    split: usize,
-) -> Result<(), WriteError>
-    requires { split < length routes.now.from }
-    ensures ok { OnOk result (Moves (W.contents writer.old) (W.contents writer.new)
-        (piece.old ++ flat_map (copy_line splits.now workers.now) (orders_at routes.now split)) piece.new) }
-    ensures err { OnErr result (AppendsFront (W.contents writer.old) (W.contents writer.new)
-        (piece.old ++ flat_map (copy_line splits.now workers.now) (orders_at routes.now split))) }
-{
-    match routes.order_at(split) {
-        Some(order) => put_copy(piece, writer, splits, workers, order),
-        None => Ok(()),
-    }
-}
-
-// A line for each order comes after the bytes that wait.
+// A line for each split that wants a copy.
 fn put_copies<W: Write>(
     piece: &mut Piece,
     writer: &mut W,
     splits: &OwnNames,
     workers: &OwnNames,
-    orders: &[CopyOrder],
+    story: &Story,
+    tables: &Tables,
 ) -> Result<(), WriteError>
+    requires { IsSound story.now.tree tables.now }
     ensures ok { OnOk result (Moves (W.contents writer.old) (W.contents writer.new)
-        (piece.old ++ flat_map (copy_line splits.now workers.now) orders.now) piece.new) }
+        (piece.old ++ flat_map (copy_line splits.now workers.now)
+        (copies_of story.now.tree story.now.target tables.now)) piece.new) }
     ensures err { OnErr result (AppendsFront (W.contents writer.old) (W.contents writer.new)
-        (piece.old ++ flat_map (copy_line splits.now workers.now) orders.now)) }
+        (piece.old ++ flat_map (copy_line splits.now workers.now)
+        (copies_of story.now.tree story.now.target tables.now))) }
 {
-    for order in orders {
-        put_copy(piece, writer, splits, workers, *order)?;
+    for number in 0..tables.holders.splits() {
+        let split = SplitNo::new(number as u32);
+        put_copy_at(piece, writer, splits, workers, story, tables, split)?;
     }
     Ok(())
+}
+
+// The line of a split, if it wants a copy.
+fn put_copy_at<W: Write>(
+    piece: &mut Piece,
+    writer: &mut W,
+    splits: &OwnNames,
+    workers: &OwnNames,
+    story: &Story,
+    tables: &Tables,
+    split: SplitNo,
+) -> Result<(), WriteError>
+    requires sound { IsSound story.now.tree tables.now }
+    requires split { split < length tables.now.holders }
+    ensures ok { OnOk result (Moves (W.contents writer.old) (W.contents writer.new)
+        (piece.old ++ flat_map (copy_line splits.now workers.now) (one_or_none (copy_at
+        (holdings tables.now.workers story.now.tree tables.now.holders story.now.target) split)))
+        piece.new) }
+    ensures err { OnErr result (AppendsFront (W.contents writer.old) (W.contents writer.new)
+        (piece.old ++ flat_map (copy_line splits.now workers.now) (one_or_none (copy_at
+        (holdings tables.now.workers story.now.tree tables.now.holders story.now.target) split)))) }
+{
+    let Tables {
+        workers: table,
+        holders,
+    } = tables;
+    match holders.copy_order(table, &story.tree, story.target, split) {
+        Some(order) => put_copy(piece, writer, splits, workers, order),
+        None => Ok(()),
+    }
 }
 
 fn put_copy<W: Write>(

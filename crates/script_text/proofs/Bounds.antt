@@ -10,13 +10,14 @@ use Rattle.line_shapes.specs.Lines.{Statement}
 use Rattle.line_shapes.specs.Places.{places_of}
 use Rattle.line_shapes.specs.declared.keyword.Keyword.{Keyword}
 use Rattle.line_shapes.specs.declared.keyword.Keyword.TheVariants as keyword
-use Rattle.line_rules.specs.Entering.{command_of, entered_of, entering_of, in_turn, most_of}
+use Rattle.line_rules.specs.Entering.{command_of, entered_of, entering_of, in_turn, most_commands, most_of}
 use Rattle.line_rules.specs.Faults.{IsFewer, IsFit, IsComplete, counted_by}
 use Rattle.line_rules.specs.Known.{Known, entered, rows_of}
 use Rattle.line_rules.specs.Reading.{AreFitLines, IsAllRead}
 use Rattle.line_rules.specs.declared.entering.Entering.{Entering}
 use Rattle.line_rules.specs.declared.entering.Entering.TheVariants.{InTurn}
 use Rattle.line_rules.specs.declared.edition.Version.{Version}
+use Rattle.line_rules.specs.declared.edition.Version.TheVariants.{One, Two, Three}
 use Rattle.line_rules.specs.declared.purpose.Purpose.{Purpose}
 use Rattle.line_rules.proofs.FitLines.{known_after, names_after}
 use Rattle.plan_text.specs.Tidy.{IsTidyRow}
@@ -32,14 +33,19 @@ pub record IsTidyCommand (rows : List Statement) (s : Statement) : Type 0 where
   pub tidy : IsTidyRow rows s
 
 pub record AreBounded (n : ℕ) (rows commands : List Statement) : Type 0 where
-  pub few : length commands ≤ 65536
+  pub few : length commands ≤ 1048576
   pub short : All (IsShort n) commands
   pub tidy : All (IsTidyCommand rows) commands
 
 most_of_command : (version : Version) (purpose : Purpose) (k : Keyword) → entering_of k ≡ InTurn
-    → most_of version purpose k ≡ Some 65536
+    → most_of version purpose k ≡ Some (most_commands version)
 most_of_command version purpose keyword.Problem is = cc
 most_of_command version purpose k is = cc
+
+most-newest : (version : Version) → most_commands version ≤ 1048576
+most-newest One = omega arith
+most-newest Two = omega arith
+most-newest Three = omega arith
 
 abbrev pub workers_in : Known → ℕ
 workers_in k = length (rows_of keyword.Worker k.rows)
@@ -77,11 +83,11 @@ module _ (n : ℕ) (k : Known) (s : Statement) (whole : length (places_of s.keyw
       let Room : Entering → Type 0 = λ e. IsFewer (most_of k.version k.purpose s.keyword)
       (counted_by e k s.keyword) in
       let counted = subst Room is fit.within_limit.room in
-      let room : length k.commands < 65536 =
+      let room : length k.commands < most_commands k.version =
       subst (λ (m : Option ℕ). IsFewer m (length k.commands)) (most_of_command k.version k.purpose s.keyword is)
       counted in
       record {
-        few = omega (arith, room, length_push k.commands s);
+        few = omega (arith, room, most-newest k.version, length_push k.commands s);
         short = All-append (IsShort n) k.commands (s ∷ []) bounded.short
             (All-cons (IsShort n) s [] short (All-nil (IsShort n)));
         tidy = All-append (IsTidyCommand rows) k.commands (s ∷ []) before

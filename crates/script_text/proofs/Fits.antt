@@ -1,5 +1,6 @@
 -- The head that tidy rows make has all that is asked of a cluster.
-use Rattle.std.proofs.Common.{ℕ, List, [], ◌∷◌, ◌≡◌, ◌≤◌, ◌+◌, ◌∙◌, Bool, true, false, ap, arith, length, map, refl}
+use Rattle.std.proofs.Common.{ℕ, List, [], ◌∷◌, ◌≡◌, ◌≤◌, ◌+◌, ◌∙◌, Bool, true, false, ap, arith, length}
+use Rattle.std.proofs.Common.{map, refl}
 use Rattle.std.proofs.Common.{subst, sym}
 use Rattle.std.specs.List.{All, enumerate_from, filter, range_with_len, sum_by}
 use Rattle.std.specs.Str.{bytes_eq}
@@ -14,6 +15,7 @@ use Rattle.text_lines.specs.Texts.{Word}
 use Rattle.line_shapes.specs.Lines.{Statement}
 use Rattle.line_shapes.specs.declared.keyword.Keyword.TheVariants.{Busy, Dead, Doc, Parts, Rack, Silence}
 use Rattle.line_shapes.specs.declared.keyword.Keyword.TheVariants.{Split, Worker}
+use Rattle.line_rules.specs.declared.edition.Version.{Version}
 use Rattle.line_rules.specs.Known.{rows_of}
 use Rattle.rack_tree.specs.Tree.{Tree}
 use Rattle.wave_problem.specs.Wave.{AreHeldWell, IsSmall}
@@ -69,7 +71,8 @@ one_split : (a b : Word) (line : ℕ × Statement) → bytes_eq a b ≡ false �
     → is_in b line ≡ false
 one_split a b line other own = other_name a b (nth_word 1 line.1) _ refl other own
 
-module _ (rows : List Statement) (tidy : AreTidy rows) (head : Head) (makes : MakesHead rows head) where
+module _ (version : Version) (rows : List Statement) (tidy : AreTidy rows) (head : Head)
+    (makes : MakesHead version rows head) where
   abbrev line : Statement → wave.Split
   line = declared_split (names_of Worker rows) (names_of Busy rows)
 
@@ -92,7 +95,7 @@ module _ (rows : List Statement) (tidy : AreTidy rows) (head : Head) (makes : Ma
       ∙ ap (range_with_len 0) (length-map (names_of Split rows) (documents_of (rows_of Doc rows))
       ∙ length-map (rows_of Split rows) (nth_word 0) ∙ sym splits_size)
 
-  few_documents : sum_by count (values_of head.texts.items) ≤ 65536
+  few_documents : sum_by count (values_of head.texts.items) ≤ 1048576
   few_documents =
       let names = names_of Split rows in
       let lines = rows_of Doc rows in

@@ -29,7 +29,7 @@ below : (names : List Word) (name : Word) (n : ℕ) → IsNumbered names name n 
 below names name n is = (position-Some (λ m. bytes_eq name m) names n name is).0
 
 -- the command that a line says is known
-pub is_known : (names : Names) (s : Statement) (c : Command) → IsShort 256 s → SaysCommand names s c
+pub is_known : (names : Names) (s : Statement) (c : Command) → IsShort 32768 s → SaysCommand names s c
     → IsKnownIn (length names.workers) (length names.splits) c
 is_known names s (command.Backup split worker) short says =
     (below names.splits _ split says.1.0, below names.workers _ worker says.1.1)
@@ -64,7 +64,7 @@ module _ (purpose : Purpose) (text : List ℕ) (value : ScriptText) (job : IsOfJ
       value.script.commands.items
   known i d lt =
       let few = (fit_master-read purpose text is.known job is.read).few_workers in
-      let bounded = bounded-read 256 purpose text is.known few is.read in
+      let bounded = bounded-read 32768 purpose text is.known few is.read in
       let nowhere : Statement = record { keyword = End; words = [] } in
       let says = is.declares.commands in
       is_known value.script.names (get_or is.known.commands i nowhere)

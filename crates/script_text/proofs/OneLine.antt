@@ -50,12 +50,12 @@ module _ (k : Known) (line : Line) (s : Statement) (fit : IsFitLine k line s) (p
   ready_line other =
       has_words k.rows s.keyword s.words (in_turn s.keyword stands other) (tidy_of k s fit.says.many fit.fit)
 
-  short : length (rows_of keyword.Worker k.rows) ≤ 256 → IsShort 256 s
+  short : length (rows_of keyword.Worker k.rows) ≤ 32768 → IsShort 32768 s
   short few same =
       let whole = subst (λ (j : Keyword). IsComplete k (record { keyword = j; words = s.words })) same fit.fit.whole in
       omega (arith, whole, few)
 
   -- the command that it says knows no others
-  pub known_line : length (rows_of keyword.Worker k.rows) ≤ 256 → (names : Names) (c : Command)
+  pub known_line : length (rows_of keyword.Worker k.rows) ≤ 32768 → (names : Names) (c : Command)
       → SaysCommand names s c → IsKnownIn (length names.workers) (length names.splits) c
   known_line few names c says = is_known names s c (short few) says

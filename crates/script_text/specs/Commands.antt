@@ -70,5 +70,5 @@ IsKnownIn workers splits (command.Die w) = w < workers
 IsKnownIn workers splits (command.Join w set) = (w < workers) × All (λ s. s < splits) set.items
 IsKnownIn workers splits (command.Add s w) = (s < splits) × (w < workers)
 IsKnownIn workers splits (command.Lose s w) = (s < splits) × (w < workers)
-IsKnownIn workers splits (command.Sweep counts) = length counts.items ≤ 256
+IsKnownIn workers splits (command.Sweep counts) = length counts.items ≤ 32768
 IsKnownIn workers splits c = Unit {0}

@@ -54,7 +54,7 @@ IsWholeCommand names s = HasWords names s.keyword s.words
 
 -- each name has a number of its kind
 pub record AreFew (names : Names) : Type 0 where
-  pub workers : length names.workers ≤ 256
+  pub workers : length names.workers ≤ 32768
   pub splits : length names.splits ≤ 131072
 
 -- the names that the rows declare

@@ -26,7 +26,7 @@ pub record IsOfHead (head : Head) (script : Script) : Type 0 where
   pub workers : length script.names.workers ≡ length head.slots.items
   pub splits : length script.names.splits ≡ length head.splits.items
   pub known : All (IsKnownIn (length head.slots.items) (length head.splits.items)) script.commands.items
-  pub few : length script.commands.items ≤ 65536
+  pub few : length script.commands.items ≤ 1048576
 
 -- a number of replicas for which copies may be ordered
 pub record IsTarget (target : ℕ) : Type 0 where
@@ -38,7 +38,7 @@ pub record IsScriptOf (purpose : Purpose) (text : List ℕ) (value : ScriptText)
   pub known : Known
   pub read : IsAllRead purpose text known
   pub declares : Declares known value.script
-  pub head : MakesHead known.rows value.head
+  pub head : MakesHead known.version known.rows value.head
 
 -- The text has no fault as a script. This is what it declares, and what is known where more commands may
 -- follow.
@@ -46,5 +46,5 @@ pub record IsOpening (text : List ℕ) (value : ScriptText) (k : Known) : Type 0
   pub ended : Known
   pub read : IsAllRead Playing text ended
   pub declares : Declares ended value.script
-  pub head : MakesHead ended.rows value.head
+  pub head : MakesHead ended.version ended.rows value.head
   pub reopened : k ≡ record ended { section = Body }

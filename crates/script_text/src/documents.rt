@@ -59,7 +59,7 @@ fn document_of(
     rows: &TidyRows<'_, '_>,
     number: usize,
 ) -> Result<Document, AllocError>
-    requires few { length (rows_of Doc rows.now) ≤ 65536 }
+    requires few { length (rows_of Doc rows.now) ≤ 1048576 }
     requires inside { number < length (rows_of Doc rows.now) }
     ensures { IfOk result (λ document. document ≡ document_told (number, nth_row Doc number rows.now)) }
 {

@@ -5,6 +5,7 @@ ghost use Rattle.script_text.specs.Heads.{FitMaster, IsFitHead, MakesHead, slots
 
 use crate::documents::build_texts;
 use crate::naming::setting_of;
+use line_rules::Version;
 use line_shapes::Keyword;
 use plan_text::TidyRows;
 use plan_text::built::{build_splits, build_tree};
@@ -14,10 +15,11 @@ use std::sync::Arc;
 use wave_problem::SplitLine;
 use word_map::SplitText;
 
-/// What the cluster of a master is made of. Slots are listed by worker number, splits and texts by split
-/// number.
+/// What the cluster of a master is made of, and the version of its text. Slots are listed by worker number,
+/// splits and texts by split number.
 #[derive(Drop)]
 pub struct Head {
+    pub version: Version,
     pub tree: RackTree,
     pub slots: Vec<u8>,
     /// The splits with their first holders.
@@ -30,10 +32,14 @@ pub struct Head {
     pub silence: u32,
 }
 
-/// The head that the rows declare. The only error is want of memory.
-pub fn build_head(alloc: Global, rows: &TidyRows<'_, '_>) -> Result<Head, AllocError>
+/// The head that the rows of a text of the version declare. The only error is want of memory.
+pub fn build_head(
+    alloc: Global,
+    version: Version,
+    rows: &TidyRows<'_, '_>,
+) -> Result<Head, AllocError>
     requires { FitMaster rows.now }
-    ensures value { IfOk result (MakesHead rows.now) }
+    ensures value { IfOk result (MakesHead version rows.now) }
     ensures fit { IfOk result IsFitHead }
 {
     rows.are_tidy();
@@ -44,6 +50,7 @@ pub fn build_head(alloc: Global, rows: &TidyRows<'_, '_>) -> Result<Head, AllocE
     let splits = build_splits(alloc, rows)?;
     let texts = build_texts(alloc, rows)?;
     Ok(Head {
+        version,
         tree,
         slots,
         splits,

@@ -39,7 +39,7 @@ pub fn split_at(names: &NameTable<'_>, words: &[&str], place: usize) -> SplitNo
 
 /// The number of the worker that the word at a place names.
 pub fn worker_at(names: &NameTable<'_>, words: &[&str], place: usize) -> WorkerNo
-    requires few { length names.now ≤ 256 }
+    requires few { length names.now ≤ 32768 }
     requires known { HasName names.now (map (λ w. w.now) words.now) place }
     ensures { IsNumbered names.now (word_at (map (λ w. w.now) words.now) place) result }
 {

@@ -39,7 +39,7 @@ pub fn read_job(alloc: Global, text: &[u8]) -> Result<ScriptText<'_>, ReadingErr
     ensures fit { IfOk result (λ value. IsFitHead value.head) }
     ensures known { IfOk result (λ value. IsOfHead value.head value.script) }
     ensures target { IfOk result (λ value. IsTarget value.script.target) }
-    ensures few { IfOk result (λ value. length value.head.slots.items ≤ 32) }
+    ensures few { IfOk result (λ value. length value.head.slots.items ≤ 1024) }
     ensures err { IfErr result (IsReadingError Running text.entry.now) }
 {
     read_for(alloc, Purpose::Running, text)
@@ -83,11 +83,11 @@ fn script_of<'t>(alloc: Global, known: &KnownLines<'t>) -> Result<ScriptText<'t>
     requires few { FitMaster known.now.rows }
     requires ready { All (IsWholeCommand (told_names known.now.rows)) known.now.commands }
     ensures script { IfOk result (λ value. Declares known.now value.script) }
-    ensures head { IfOk result (λ value. MakesHead known.now.rows value.head) }
+    ensures head { IfOk result (λ value. MakesHead known.now.version known.now.rows value.head) }
     ensures fit { IfOk result (λ value. IsFitHead value.head) }
 {
     let rows = TidyRows::new(known.rows());
-    let head = build_head(alloc, &rows)?;
+    let head = build_head(alloc, known.version(), &rows)?;
     let script = build_script(alloc, &rows, known.commands())?;
     Ok(ScriptText { head, script })
 }

@@ -1,5 +1,5 @@
 -- What a step under the lock says of the hand, of the book and to the caller.
-use Rattle.std.proofs.Common.{◌≡◌, ◌⊎◌, ℕ, zero, suc, ◌+◌, ◌<◌, ◌≤◌, ◌++◌, None}
+use Rattle.std.proofs.Common.{◌≡◌, ◌⊎◌, ℕ, zero, suc, ◌+◌, ◌<◌, ◌≤◌, ◌++◌, false, None}
 use Rattle.std.proofs.Common.{List, [], ◌∷◌, length, Some, All, refl, sym, ap, subst, ◌∙◌, arith, inl, inr}
 use Rattle.std.proofs.lemmas.Option.{same_Some, slice_get_within}
 use Rattle.master_state.specs.declared.answers.Answer.{Answer}
@@ -16,6 +16,7 @@ use Rattle.master_state.specs.Jobs.{Job, Answers, AnswersReduce, IsAccepted, IsK
 use Rattle.master_state.specs.Jobs.{event_of}
 use Rattle.master_state.specs.Refusals.{Call, Backup, IsKnown, ReduceStart}
 use Rattle.master_state.proofs.Lists.{All-right, slice_get-push}
+use Rattle.compact_lists.specs.Lists.{is_join}
 use Rattle.hand_ledger.specs.Hands.{HandValue, Kept, counts_in, last_place, starts_in}
 use Rattle.hand_ledger.specs.Settling.{LastStands, event_at}
 use Rattle.shared_master.specs.declared.calls.PlainCall.{PlainCall}
@@ -24,7 +25,7 @@ use Rattle.shared_master.specs.declared.sizes.Sizes.{Sizes}
 use Rattle.shared_master.specs.Held.{IsMasterOf}
 use Rattle.shared_master.specs.Steps.{answered, AreSizesOf, HasCounts, IsAt, IsBarrier, IsBehind, IsKeptAs}
 use Rattle.shared_master.specs.Steps.{IsKeptBackup, IsKeptReduce, IsKnownTo, IsNextOf, IsReplyOf}
-use Rattle.shared_master.specs.Steps.{IsReduceStep, IsStep, Replies, call_of, plain_event}
+use Rattle.shared_master.specs.Steps.{IsOwn, IsReduceStep, IsStep, Replies, call_of, plain_event}
 
 -- the call was accepted, or the master is unchanged
 abbrev pub Takes : {T B : Type 0} → Job → Call → Answer T B → Job → Type 0
@@ -54,23 +55,26 @@ pub is_at : {T B : Type 0} (old : Job) (call : Call) (given : Answer T B) (new :
 is_at old call (Accepted place told) new accepted = grind (arith, at_end)
 is_at old call (Ignored why back) new same = tt
 
--- the event of an accepted call has as many counts as the call, and no starts
+-- the event of an accepted call that is no join has as many counts as the call, and no starts
 pub counted : {T B : Type 0} (old : Job) (call : Call) (given : Answer T B) (new : Job) (n : ℕ) →
     counts_in (event_of old.state call) ≡ n → starts_in (event_of old.state call) ≡ 0 →
-    Takes old call given new → HasCounts new.history given n
-counted {T = T} {B = B} old call (Accepted place told) new n counts starts accepted =
+    is_join (event_of old.state call) ≡ false → Takes old call given new → HasCounts new.history given n
+counted {T = T} {B = B} old call (Accepted place told) new n counts starts other accepted =
     λ event at.
     (let given : Answer T B = Accepted place told in
     let same : event_of old.state call ≡ event = same_Some _ _ (sym (is_at old call given new accepted)
-    ∙ at) in
-    (subst (λ e. counts_in e ≡ n) same counts, subst (λ e. starts_in e ≡ 0) same starts))
-counted old call (Ignored why back) new n counts starts same = tt
+    ∙ at) in (
+      subst (λ e. counts_in e ≡ n) same counts,
+      subst (λ e. starts_in e ≡ 0) same starts,
+      subst (λ e. is_join e ≡ false) same other,
+    ))
+counted old call (Ignored why back) new n counts starts other same = tt
 
 -- the same of a call that hands in numbers alone: no counts
 pub counted_none : (old : Job) (call : PlainCall) (given : Plain) (new : Job) →
     Takes old (call_of call) given new → HasCounts new.history given 0
-counted_none old (plain.Add split w) given new took = counted old _ given new 0 refl refl took
-counted_none old call given new took = counted old _ given new 0 refl refl took
+counted_none old (plain.Add split w) given new took = counted old _ given new 0 refl refl refl took
+counted_none old call given new took = counted old _ given new 0 refl refl refl took
 
 -- a step that reached the master
 pub stepped : {T B : Type 0} {inside old : Job} {hand : HandValue} {call : Call}
@@ -103,11 +107,16 @@ event_within : (history : List Event) (place : ℕ) (event : Event) → event_at
 event_within history zero event at = omega arith
 event_within history (suc k) event at = omega (arith, slice_get_within history k event at)
 
-pub last_within : (history : List Event) (calls : List Kept) → LastStands history calls →
+last_within : (history : List Event) (calls : List Kept) → LastStands history calls →
     last_place calls ≤ length history
 last_within history [] stands = omega arith
 last_within history (call ∷ []) stands = event_within history call.place call.event stands
 last_within history (call ∷ next ∷ calls) stands = last_within history (next ∷ calls) stands
+
+-- the last call of a hand that is the master's stands within the history
+pub own_within : (job : Job) (hand : HandValue) → IsOwn job hand →
+    last_place hand.calls ≤ length job.history
+own_within job hand own = last_within job.history hand.calls own.stands
 
 -- an accepted call reached the master
 reached_of : {T B X : Type 0} (old : Job) (hand : HandValue) (n place : ℕ) (told : T)
@@ -120,7 +129,7 @@ reached_of old hand n place told new (inr reached) = reached
 next_of : {T B : Type 0} (old : Job) (hand : HandValue) (call : Call)
     (counts : List (List ℕ)) (given : Answer T B) (new : Job) →
     IsBehind old hand (length counts) given new (Takes old call given new) → IsNextOf hand counts given
-next_of old hand call counts (Accepted place told) new is = grind (arith, reached_of, last_within)
+next_of old hand call counts (Accepted place told) new is = grind (arith, reached_of, own_within)
 next_of old hand call counts (Ignored why back) new is = tt
 
 mapped : {A B X Y : Type 0} → (X → Y) → A ⊎ (B × X) → A ⊎ (B × Y)
@@ -202,10 +211,10 @@ replies (Ignored why back) step of_job then = tt
 -- numbers within the sizes that stand beside the lock are the job's
 pub known : {setup : Setup} {sizes : Sizes} → AreSizesOf setup sizes → (call : PlainCall) →
     IsKnownTo sizes (call_of call) → IsKnown setup (call_of call)
-known are (plain.Add split w) is = (subst (λ n. split < n) are.splits is.0, subst (λ n. w < n) are.workers is.1)
-known are (plain.Lose split w) is = (subst (λ n. split < n) are.splits is.0, subst (λ n. w < n) are.workers is.1)
-known are (plain.Join w set) is =
-    (subst (λ n. w < n) are.workers is.0, λ split has. subst (λ n. split < n) are.splits (is.1 split has))
+known are (plain.Add split w) is =
+    (subst (λ n. split < n) are.splits is.0, subst (λ n. w < n) are.workers is.1)
+known are (plain.Lose split w) is =
+    (subst (λ n. split < n) are.splits is.0, subst (λ n. w < n) are.workers is.1)
 known are (plain.Die w) is = subst (λ n. w < n) are.workers is
 known are (plain.MapFailed a) is = tt
 known are (plain.Withdraw a) is = tt

@@ -1,6 +1,8 @@
 -- What a wave under the lock says to its caller.
-use Rattle.std.proofs.Common.{◌≡◌, ℕ, suc, ◌+◌, ◌-◌, ◌<◌, ◌≤◌, ◌&&◌, ◌||◌, ◌^◌, Bool, true, false, List, [], ◌∷◌, ◌++◌}
-use Rattle.std.proofs.Common.{length, map, drop, Option, Some, None, All, refl, sym, ap, subst, ◌∙◌, append_assoc}
+use Rattle.std.proofs.Common.{◌≡◌, ℕ, suc, ◌+◌, ◌-◌, ◌<◌, ◌≤◌, ◌&&◌, ◌||◌, ◌^◌, Bool, true, false, List, []}
+use Rattle.std.proofs.Common.{◌∷◌, ◌++◌}
+use Rattle.std.proofs.Common.{length, map, drop, Option, Some, None, All, refl, sym, ap, subst, ◌∙◌}
+use Rattle.std.proofs.Common.{append_assoc}
 use Rattle.std.proofs.Common.{arith, inl, inr}
 use Rattle.std.specs.Prelude.{fold, not, vec_capacity, zip, IfOk, Ok, Err}
 use Rattle.std.specs.declared.result.Result.{Result}
@@ -37,10 +39,13 @@ use Rattle.shared_master.specs.declared.waves.WaveError.{WaveError}
 use Rattle.shared_master.specs.declared.waves.WaveError.TheVariants.{HistoryFull, Memory, StrangeHand}
 use Rattle.shared_master.specs.Held.{IsMasterOf}
 use Rattle.shared_master.specs.Steps.{IsOwn}
-use Rattle.shared_master.specs.Waves.{CommitsAs, FitsSizes, IsAsked, IsKeptWave, IsMadeOf, IsMapStart, IsNoWaveOf}
-use Rattle.shared_master.specs.Waves.{IsLastWave, IsSharedWave, IsSolved, IsUnasked, IsUncommitted, IsUnplanned}
-use Rattle.shared_master.specs.Waves.{IsMadeIn, PlansAs, SolvesAs, WavesAs, has_room_for, kept_wave, noted_wave}
-use Rattle.shared_master.proofs.Stepping.{last_within}
+use Rattle.shared_master.specs.Waves.{CommitsAs, FitsSizes, IsAsked, IsKeptWave, IsMadeOf, IsMapStart}
+use Rattle.shared_master.specs.Waves.{IsNoWaveOf}
+use Rattle.shared_master.specs.Waves.{IsLastWave, IsSharedWave, IsSolved, IsUnasked, IsUncommitted}
+use Rattle.shared_master.specs.Waves.{IsUnplanned}
+use Rattle.shared_master.specs.Waves.{IsMadeIn, PlansAs, SolvesAs, WavesAs, has_room_for, kept_wave}
+use Rattle.shared_master.specs.Waves.{noted_wave}
+use Rattle.shared_master.proofs.Stepping.{own_within}
 
 both_first : (a b : Bool) → (a && b) ≡ true → a ≡ true
 both_first true b is = refl
@@ -63,7 +68,7 @@ pub wave_kept : (setup : Setup) (old : Job) (hand : HandValue) (plan : List (Opt
     IsSharedWave old hand plan prices shared new after → IsKeptWave setup hand shared after
 wave_kept setup old hand plan prices shared new after of_job made wave =
     let above : last_place hand.calls < shared.wave.place =
-    grind (arith, last_within old.history hand.calls wave.own, wave.committed.next.place_is) in
+    grind (arith, own_within old hand wave.own, wave.committed.next.place_is) in
     let room : has_room hand 0 (length shared.starts.items) ≡ true =
     ap (has_room hand 0) (wave.count ∙ wave.committed.change.count_is)
     ∙ both_first _ _ wave.room in

@@ -2,10 +2,12 @@
 use Rattle.std.specs.Prelude.{ℕ, ◌≡◌, ◌≤◌, ◌||◌, Bool, List, Option, Some, None, [], length}
 use Rattle.block_map.specs.Copies.{AreCopies, holdings}
 use Rattle.block_map.specs.declared.CopyOrder.{CopyOrder}
+use Rattle.block_map.specs.declared.HolderLimit.TheVariants.{Eight}
 use Rattle.master_state.specs.States.{Setup}
 use Rattle.master_state.specs.Jobs.{Job, IsGlance, IsKept}
 use Rattle.master_state.specs.Refusals.{has_no_sweep, has_no_room}
 use Rattle.master_state.specs.declared.answers.Glance.{Glance}
+use Rattle.master_core.specs.Backups.{IsBackupWorker}
 use Rattle.hand_ledger.specs.Settling.{LogValue}
 use Rattle.shared_master.specs.declared.held.Seen.{Seen}
 
@@ -24,6 +26,7 @@ nothing = record {
     texts = [];
     parts = 0;
     silence = 0;
+    holder_limit = Eight;
   };
   limits = record { events = 0; attempts = 0; sweeps = 0 };
 }
@@ -42,6 +45,11 @@ abbrev pub AreCopiesOf : Setup → ℕ → List CopyOrder → Type 0
 AreCopiesOf setup target orders =
     (job : Job) × IsMasterOf setup job
     × AreCopies (holdings job.state.workers job.setup.cluster.tree job.state.holders target) orders
+
+-- the lowest worker on which a second attempt of the split may start, in a state of a master of this job
+abbrev pub IsBackupWorkerOf : Setup → ℕ → Option ℕ → Type 0
+IsBackupWorkerOf setup split worker =
+    (job : Job) × IsMasterOf setup job × IsBackupWorker job split worker
 
 -- what was seen at a glance would be seen again where no event came since
 abbrev pub IsStillSeen : Job → Option Seen → Type 0

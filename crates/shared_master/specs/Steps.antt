@@ -1,10 +1,9 @@
 -- What a call of a hand does under the lock, and what its caller sees of it.
-use Rattle.std.specs.Prelude.{ℕ, ◌≡◌, ◌+◌, ◌<◌, ◌⊎◌, true, false, List, [], ◌∷◌, Option, Some, None, length}
-use Rattle.node_ids.specs.Sets.{Has, has_number}
+use Rattle.std.specs.Prelude.{ℕ, ◌≡◌, ◌+◌, ◌<◌, ◌≤◌, ◌⊎◌, true, false, All, List, [], ◌∷◌, Option, Some, None}
+use Rattle.std.specs.Prelude.{length}
 use Rattle.master_state.specs.declared.answers.Answer.{Answer}
 use Rattle.master_state.specs.declared.answers.Answer.TheVariants.{Accepted, Ignored}
 use Rattle.master_state.specs.declared.answers.Reply.{Reply}
-use Rattle.master_state.specs.declared.answers.Swept.{Swept}
 use Rattle.master_state.specs.declared.answers.Why.{Why}
 use Rattle.master_state.specs.declared.answers.Why.TheVariants.{HistoryFull, StrangeHand}
 use Rattle.master_state.specs.declared.events.Event.{Event}
@@ -12,10 +11,10 @@ use Rattle.master_state.specs.declared.events.Event.TheVariants as events
 use Rattle.master_state.specs.States.{Setup}
 use Rattle.master_state.specs.Jobs.{Job, Answers, AnswersReduce, IsReply, Plain, Tells, died_in}
 use Rattle.master_state.specs.Jobs.{event_of}
-use Rattle.master_state.specs.Refusals.{Call, MapFailed, Withdraw, Die, Join, Add, Lose, ReduceStart}
-use Rattle.master_state.specs.Refusals.{PartFailed, Backup}
-use Rattle.hand_ledger.specs.Hands.{HandValue, counts_in, has_room, kept, last_place, noted, own_counts}
-use Rattle.hand_ledger.specs.Hands.{starts_in}
+use Rattle.master_state.specs.Refusals.{Call, MapFailed, Withdraw, Die, Join, Add, Lose, Sweep}
+use Rattle.master_state.specs.Refusals.{ReduceStart, PartFailed, Backup}
+use Rattle.compact_lists.specs.Lists.{is_join}
+use Rattle.hand_ledger.specs.Hands.{HandValue, counts_in, has_room, kept, last_place, noted, starts_in}
 use Rattle.hand_ledger.specs.Hands.{with_call}
 use Rattle.hand_ledger.specs.Settling.{LastStands, event_at}
 use Rattle.shared_master.specs.declared.calls.PlainCall.{PlainCall}
@@ -23,21 +22,22 @@ use Rattle.shared_master.specs.declared.calls.PlainCall.TheVariants as plain
 use Rattle.shared_master.specs.Held.{IsMasterOf}
 use Rattle.shared_master.specs.declared.sizes.Sizes.{Sizes}
 
--- what a call asks for: its splits and workers are within the sizes that stand beside the lock
+-- what a call asks for: its splits and workers are within the sizes that stand beside the lock, and a sweep
+-- has a count for each worker
 abbrev pub IsKnownTo : Sizes → Call → Type 0
 IsKnownTo sizes (Die w) = w < sizes.workers
 IsKnownTo sizes (Join w set) =
-    (w < sizes.workers) × ((split : ℕ) → Has set split → split < sizes.splits)
+    (w < sizes.workers) × All (λ split. split < sizes.splits) set
 IsKnownTo sizes (Add split w) = (split < sizes.splits) × (w < sizes.workers)
 IsKnownTo sizes (Lose split w) = (split < sizes.splits) × (w < sizes.workers)
 IsKnownTo sizes (Backup split w) = (split < sizes.splits) × (w < sizes.workers)
+IsKnownTo sizes (Sweep counts) = length counts ≡ sizes.workers
 IsKnownTo sizes call = Unit {0}
 
 -- the master's call of a plain one
 abbrev pub call_of : PlainCall → Call
 call_of (plain.Add split w) = Add split w
 call_of (plain.Lose split w) = Lose split w
-call_of (plain.Join w set) = Join w set
 call_of (plain.Die w) = Die w
 call_of (plain.MapFailed a) = MapFailed a
 call_of (plain.Withdraw a) = Withdraw a
@@ -47,7 +47,6 @@ call_of (plain.PartFailed a) = PartFailed a
 abbrev pub plain_event : PlainCall → Event
 plain_event (plain.Add split w) = events.Add split w
 plain_event (plain.Lose split w) = events.Lose split w
-plain_event (plain.Join w set) = events.Join w set
 plain_event (plain.Die w) = events.Die w
 plain_event (plain.MapFailed a) = events.MapFailed a
 plain_event (plain.Withdraw a) = events.Withdraw a
@@ -56,11 +55,14 @@ plain_event (plain.PartFailed a) = events.PartFailed a
 -- as many splits and workers as a job has
 pub record AreSizesOf (setup : Setup) (sizes : Sizes) : Type 0 where
   pub splits : sizes.splits ≡ length setup.cluster.splits
+  pub few_splits : sizes.splits ≤ 131072
   pub workers : sizes.workers ≡ length setup.cluster.slots
 
--- the hand is this master's: its last call stands in the history at its place
-abbrev pub IsOwn : Job → HandValue → Type 0
-IsOwn job hand = LastStands job.history hand.calls
+-- The hand is this master's: it keeps a count for each worker of the job, and its last call stands in the
+-- history at its place.
+pub record IsOwn (job : Job) (hand : HandValue) : Type 0 where
+  pub workers : hand.workers ≡ length job.setup.cluster.slots
+  pub stands : LastStands job.history hand.calls
 
 -- why a call that needs room for so many counts and starts does not reach the master, if it does not
 abbrev pub IsBarrier : Job → HandValue → ℕ → ℕ → Option Why → Type 0
@@ -133,16 +135,14 @@ pub record IsReplyOf (setup : Setup) (job : Job) (reply : Reply) : Type 0 where
 abbrev pub Replies : Setup → Answer Reply (Unit {0}) → Type 0
 Replies setup given = Tells (λ reply. (job : Job) × IsReplyOf setup job reply) given
 
--- a sweep with the counts of the workers, by the place that these have among all sweeps
+-- a sweep with its counts, by the place that these have among all sweeps
 abbrev pub IsKeptSweep : HandValue → List ℕ → Plain → HandValue → Type 0
 IsKeptSweep hand counts given after =
-    (n : ℕ) × IsKeptAs hand (events.Sweep n) (own_counts hand (counts ∷ [])) given after
+    (n : ℕ) × IsKeptAs hand (events.Sweep n) (counts ∷ []) given after
 
--- the workers that died in a sweep with this answer died in a master of this job
-abbrev pub AreDeadOf : Setup → List ℕ → Swept → Type 0
-AreDeadOf setup counts swept =
-    (job : Job) × IsMasterOf setup job
-    × ((w : ℕ) → has_number swept.dead w ≡ died_in job counts swept.answer w)
+-- exactly these workers died in a sweep with this answer, in a master of this job
+abbrev pub AreDeadOf : Setup → List ℕ → Plain → List ℕ → Type 0
+AreDeadOf setup counts given dead = (job : Job) × IsMasterOf setup job × (dead ≡ died_in job counts given)
 
 -- a master of this job took the call so, or it did not reach it
 pub record IsStepOf {T B : Type 0}
@@ -171,10 +171,11 @@ abbrev pub IsAt : {T B : Type 0} → List Event → Answer T B → Event → Typ
 IsAt history (Accepted place told) event = event_at history place ≡ Some event
 IsAt history (Ignored why back) event = Unit {0}
 
--- the event that stands there has so many counts, and no starts
+-- the event that stands there has so many counts and no starts, and is no join
 abbrev pub HasCounts : {T B : Type 0} → List Event → Answer T B → ℕ → Type 0
 HasCounts history (Accepted place told) n =
-    (event : Event) → event_at history place ≡ Some event → (counts_in event ≡ n) × (starts_in event ≡ 0)
+    (event : Event) → event_at history place ≡ Some event →
+    (counts_in event ≡ n) × (starts_in event ≡ 0) × (is_join event ≡ false)
 HasCounts history (Ignored why back) n = Unit {0}
 
 -- the total of the book after an answer

@@ -4,14 +4,13 @@ ghost use Rattle.shared_master.specs.Steps.{call_of};
 
 use master_core::Master;
 use master_state::Answer;
-use node_ids::{AttemptNo, SplitNo, SplitSet, WorkerNo};
+use node_ids::{AttemptNo, SplitNo, WorkerNo};
 
 // A call that hands in numbers alone, and is answered by a place or a reason alone.
 #[derive(Clone, Copy)]
 pub(crate) enum PlainCall {
     Add(SplitNo, WorkerNo),
     Lose(SplitNo, WorkerNo),
-    Join(WorkerNo, SplitSet),
     Die(WorkerNo),
     MapFailed(AttemptNo),
     Withdraw(AttemptNo),
@@ -27,7 +26,6 @@ impl PlainCall {
         match self {
             PlainCall::Add(split, worker) => master.add(*split, *worker),
             PlainCall::Lose(split, worker) => master.lose(*split, *worker),
-            PlainCall::Join(worker, set) => master.join(*worker, set),
             PlainCall::Die(worker) => master.die(*worker),
             PlainCall::MapFailed(attempt) => master.map_failed(*attempt),
             PlainCall::Withdraw(attempt) => master.withdraw(*attempt),

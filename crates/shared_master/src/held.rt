@@ -1,11 +1,11 @@
-ghost use Rattle.std.specs.Prelude.{◌≡◌, ℕ, ◌+◌, ◌<◌, ◌≤◌, ◌↔◌, [], ◌∷◌, true, length, IsTrue, IfOk, OnErr};
-ghost use Rattle.std.specs.Prelude.{OnOk, Err};
-ghost use Rattle.node_ids.specs.Sets.{has_number};
+ghost use Rattle.std.specs.Prelude.{◌≡◌, ◌+◌, ◌<◌, ◌≤◌, ◌↔◌, [], ◌∷◌, true, length, IsTrue, IfOk, OnErr};
+ghost use Rattle.std.specs.Prelude.{All, OnOk, Err, map, option_to_list};
 ghost use Rattle.block_map.specs.Copies.{AreCopies, holdings};
 ghost use Rattle.master_state.specs.Jobs.{died_in, GivesBack, IsGlance, TellsNext};
 ghost use Rattle.master_state.specs.Refusals.{Call, IsKnown};
 ghost use Rattle.master_state.specs.declared.events.Event.{Event};
-ghost use Rattle.hand_ledger.specs.Hands.{has_room, new_hand, noted, own_counts};
+ghost use Rattle.master_core.specs.Backups.{IsBackupWorker};
+ghost use Rattle.hand_ledger.specs.Hands.{has_room, new_hand, noted};
 ghost use Rattle.hand_ledger.specs.Settling.{all_calls};
 ghost use Rattle.hand_ledger.specs.declared.making.HandError.{HandError};
 ghost use Rattle.shared_master.specs.Steps.{answered, call_of, HasCounts, IsAt, IsBarrier, IsLast, IsOwn};
@@ -17,13 +17,14 @@ use crate::of_job::OfJob;
 use block_map::CopyOrder;
 use hand_ledger::{Hand, HandError, Hands};
 use master_core::Master;
-use master_state::{Answer, Glance, Limits, Reply, Swept, Why};
-use node_ids::{AttemptNo, SplitNo, WorkerNo, WorkerSet};
+use master_state::{Answer, Glance, Limits, Reply, Why};
+use node_ids::{AttemptNo, SplitNo, SplitSet, WorkerNo};
 use shuffle_reduce::PartResult;
 use std::alloc::{AllocError, Global};
 use std::marker::Model;
 use std::sync::ledger::Ledger;
 use word_map::MapResult;
+use worker_table::DeadList;
 
 // What lies under the lock: a master of the job, and what is kept of all hands.
 #[derive(Drop)]
@@ -105,11 +106,11 @@ impl<L: Ledger + OfJob> Held<L> {
         self.master.is_kept();
     }
 
-    // Whether the hand's last call stands in the history.
+    // Whether the hand keeps a count for each worker, and its last call stands in the history.
     pub(crate) fn is_own(&self, hand: &Hand<L>) -> bool
         ensures { IsTrue result ↔ IsOwn self.now.job hand.now }
     {
-        hand.stands(self.master.history())
+        hand.workers() == self.master.cluster().slots().len() && hand.stands(self.master.history())
     }
 
     // Why a call does not reach the master, if it does not.
@@ -138,7 +139,31 @@ impl<L: Ledger + OfJob> Held<L> {
             return Answer::Ignored(why, ());
         }
         let answer = call.ask(&mut self.master);
-        enter(&self.master, &mut self.hands, hand, &[], &answer);
+        enter(&self.master, &mut self.hands, hand, None, &answer);
+        answer
+    }
+
+    pub(crate) fn join(
+        &mut self,
+        hand: &mut Hand<L>,
+        worker: WorkerNo,
+        set: SplitSet,
+        kept: SplitSet,
+    ) -> Answer
+        requires known { IsKnown L.setup (Call.Join worker set) }
+        requires same { kept ≡ set }
+        ensures old { IsMasterOf L.setup self.old.job }
+        ensures step { IsStep self.old.job hand.old (Call.Join worker set) [] result
+            self.new.job hand.new }
+        ensures made { self.new.made ≡ self.old.made }
+    {
+        self.is_of_job();
+        if let Some(why) = self.why_not(hand, 0) {
+            ignore(hand, 0, why);
+            return Answer::Ignored(why, ());
+        }
+        let answer = self.master.join(worker, set);
+        enter_join(&self.master, &mut self.hands, hand, worker, kept, &answer);
         answer
     }
 
@@ -160,7 +185,7 @@ impl<L: Ledger + OfJob> Held<L> {
             return Answer::Ignored(why, made);
         }
         let answer = self.master.map_done(attempt, made);
-        enter(&self.master, &mut self.hands, hand, &[], &answer);
+        enter(&self.master, &mut self.hands, hand, None, &answer);
         answer
     }
 
@@ -182,7 +207,7 @@ impl<L: Ledger + OfJob> Held<L> {
             return Answer::Ignored(why, made);
         }
         let answer = self.master.part_done(attempt, made);
-        enter(&self.master, &mut self.hands, hand, &[], &answer);
+        enter(&self.master, &mut self.hands, hand, None, &answer);
         answer
     }
 
@@ -205,7 +230,7 @@ impl<L: Ledger + OfJob> Held<L> {
             return Answer::Ignored(why, ());
         }
         let answer = self.master.backup(split, worker);
-        enter(&self.master, &mut self.hands, hand, &[], &answer);
+        enter(&self.master, &mut self.hands, hand, None, &answer);
         answer
     }
 
@@ -222,34 +247,34 @@ impl<L: Ledger + OfJob> Held<L> {
         }
         let answer = self.master.reduce_start(alloc);
         self.master.is_kept();
-        enter(&self.master, &mut self.hands, hand, &[], &answer);
+        enter(&self.master, &mut self.hands, hand, None, &answer);
         answer
     }
 
-    pub(crate) fn sweep(&mut self, hand: &mut Hand<L>, counts: &[u64; 256]) -> Swept
-        ensures step { IsStep self.old.job hand.old (Call.Sweep counts.now)
-            (own_counts hand.old (counts.now ∷ [])) result.answer self.new.job hand.new }
-        ensures dead { (w : ℕ) → has_number result.dead w ≡ died_in self.old.job counts.now result.answer w }
+    pub(crate) fn sweep(
+        &mut self,
+        hand: &mut Hand<L>,
+        counts: &[u64],
+        dead: &mut DeadList,
+    ) -> Answer
+        requires known { IsKnown L.setup (Call.Sweep counts.now) }
+        requires room { length L.setup.cluster.slots ≤ dead.old.room }
+        ensures step { IsStep self.old.job hand.old (Call.Sweep counts.now) (counts.now ∷ []) result
+            self.new.job hand.new }
+        ensures dead { dead.new.items ≡ died_in self.old.job counts.now result }
+        ensures room { dead.new.room ≡ dead.old.room }
         ensures old { IsMasterOf L.setup self.old.job }
         ensures made { self.new.made ≡ self.old.made }
     {
         self.is_of_job();
         if let Some(why) = self.why_not(hand, 1) {
             ignore(hand, 1, why);
-            return Swept {
-                answer: Answer::Ignored(why, ()),
-                dead: WorkerSet::new(),
-            };
+            dead.clear();
+            return Answer::Ignored(why, ());
         }
-        let swept = self.master.sweep(counts);
-        enter(
-            &self.master,
-            &mut self.hands,
-            hand,
-            &[*counts],
-            &swept.answer,
-        );
-        swept
+        let answer = self.master.sweep(counts, dead);
+        enter(&self.master, &mut self.hands, hand, Some(counts), &answer);
+        answer
     }
 
     // What is seen at a glance. It is told again, without a look, where nothing was accepted since.
@@ -268,6 +293,16 @@ impl<L: Ledger + OfJob> Held<L> {
         let glance = self.master.glance();
         self.seen = Some(Seen { events, glance });
         glance
+    }
+
+    // The lowest worker on which a second attempt of a split may start, if there is one.
+    pub(crate) fn backup_worker(&self, split: SplitNo) -> Option<WorkerNo>
+        requires { split < length L.setup.cluster.splits }
+        ensures of_job { IsMasterOf L.setup self.now.job }
+        ensures worker { IsBackupWorker self.now.job split result }
+    {
+        self.is_of_job();
+        self.master.backup_worker(split)
     }
 
     pub(crate) fn copy_orders(
@@ -292,20 +327,21 @@ fn ignore<L: Ledger>(hand: &mut Hand<L>, counts: usize, why: Why)
     hand.note(had_room, why);
 }
 
-// Keeps the event of an accepted call in the hand, with the counts of the workers; or notes why the call was
-// ignored.
+// Keeps the event of an accepted call that is no join in the hand, with its counts if it is a sweep; or notes
+// why the call was ignored.
 fn enter<L: Ledger, T, B>(
     master: &Master,
     hands: &mut Hands<L>,
     hand: &mut Hand<L>,
-    counts: &[[u64; 256]],
+    counts: Option<&[u64]>,
     answer: &Answer<T, B>,
 )
     requires place { IsLast master.now.history answer.now }
-    requires counts { HasCounts master.now.history answer.now (length counts.now) }
-    requires room { has_room hand.old (length counts.now) 0 ≡ true }
+    requires counts { HasCounts master.now.history answer.now (length (option_to_list counts)) }
+    requires workers { All (λ own. length own.now ≡ hand.old.workers) (option_to_list counts) }
+    requires room { has_room hand.old (length (option_to_list counts)) 0 ≡ true }
     ensures hand { (event : Event) → IsAt master.now.history answer.now event
-        → hand.new ≡ answered hand.old event (own_counts hand.old counts.now) answer.now }
+        → hand.new ≡ answered hand.old event (map (λ own. own.now) (option_to_list counts.entry)) answer.now }
     ensures total { hands.new.total ≡ total_after hands.old.total answer.now }
     ensures made { hands.new.made ≡ hands.old.made }
 {
@@ -314,6 +350,27 @@ fn enter<L: Ledger, T, B>(
             let event = master.history().at(*place as usize - 1);
             hand.keep(hands, *place, &event, counts, &[]);
         }
-        Answer::Ignored(why, _) => ignore(hand, counts.len(), *why),
+        Answer::Ignored(why, _) => ignore(hand, usize::from(counts.is_some()), *why),
+    }
+}
+
+// Keeps an accepted join in the hand, which takes the set over; or notes why the call was ignored.
+fn enter_join<L: Ledger>(
+    master: &Master,
+    hands: &mut Hands<L>,
+    hand: &mut Hand<L>,
+    worker: WorkerNo,
+    set: SplitSet,
+    answer: &Answer,
+)
+    requires place { IsLast master.now.history answer.now }
+    requires room { has_room hand.old 0 0 ≡ true }
+    ensures hand { hand.new ≡ answered hand.old (Event.Join worker set) [] answer.now }
+    ensures total { hands.new.total ≡ total_after hands.old.total answer.now }
+    ensures made { hands.new.made ≡ hands.old.made }
+{
+    match answer {
+        Answer::Accepted(..) => hand.keep_join(hands, master.events(), worker, set),
+        Answer::Ignored(why, _) => ignore(hand, 0, *why),
     }
 }

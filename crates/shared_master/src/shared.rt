@@ -2,8 +2,8 @@ ghost use Rattle.std.specs.Prelude.{◌≡◌, ◌<◌, ◌≤◌, [], ◌∷◌
 ghost use Rattle.master_state.specs.declared.events.Event.{Event};
 ghost use Rattle.master_state.specs.Jobs.{GivesBack};
 ghost use Rattle.master_state.specs.Refusals.{Call};
-ghost use Rattle.hand_ledger.specs.Hands.{new_hand, own_counts};
-ghost use Rattle.shared_master.specs.Held.{AreCopiesOf, IsMasterOf, IsShownOf};
+ghost use Rattle.hand_ledger.specs.Hands.{new_hand};
+ghost use Rattle.shared_master.specs.Held.{AreCopiesOf, IsBackupWorkerOf, IsMasterOf, IsShownOf};
 ghost use Rattle.shared_master.specs.Steps.{AreDeadOf, AreSizesOf, IsKeptAs, IsKeptBackup, IsKeptReduce};
 ghost use Rattle.shared_master.specs.Steps.{IsKeptSweep, IsKnownTo, IsReduceStepOf, IsStepOf, Replies};
 ghost use Rattle.shared_master.specs.Steps.{call_of, plain_event};
@@ -20,7 +20,7 @@ use crate::waves::{Between, Nothing, SharedWave, Solved, Uncommitted, WaveError,
 use block_map::CopyOrder;
 use hand_ledger::{Hand, HandError, Hands};
 use master_core::Master;
-use master_state::{Answer, Limits, Reply, Swept};
+use master_state::{Answer, Limits, Reply};
 use node_ids::{AttemptNo, SplitNo, SplitSet, WorkerNo};
 use shuffle_reduce::PartResult;
 use std::alloc::{AllocError, Global};
@@ -28,6 +28,7 @@ use std::marker::Model;
 use std::sync::ledger::{Blank, Ledger};
 use std::sync::{Mutex, Wait};
 use word_map::MapResult;
+use worker_table::DeadList;
 
 /// A master of the job that threads share, each with a hand of its own.
 #[derive(Drop)]
@@ -76,7 +77,7 @@ impl<L: Ledger + OfJob> SharedMaster<L> {
         self.sizes
     }
 
-    /// A hand for one thread, with all the room that it will have.
+    /// A hand for one thread, with this room.
     pub fn hand<R: Wait>(&self, rt: &R, alloc: Global, room: Limits) -> Result<Hand<L>, HandError>
         ensures { IfOk result (λ h. h ≡ new_hand (length L.setup.cluster.slots) room) }
     {
@@ -134,19 +135,22 @@ impl<L: Ledger + OfJob> SharedMaster<L> {
         self.plain(rt, hand, &PlainCall::Lose(split, worker))
     }
 
-    /// `Master::join` under the lock.
+    /// `Master::join` under the lock. The history keeps the one set and the hand the other, so the call takes
+    /// no memory.
     pub fn join<R: Wait>(
         &self,
         rt: &R,
         hand: &mut Hand<L>,
         worker: WorkerNo,
-        set: &SplitSet,
+        set: SplitSet,
+        kept: SplitSet,
     ) -> Answer
-        requires { IsKnownTo self.now (Call.Join worker set.now) }
-        ensures kept { IsKeptAs hand.old (Event.Join worker set.now) [] result hand.new }
-        ensures step { IsStepOf L.setup hand.old (Call.Join worker set.now) [] result hand.new }
+        requires known { IsKnownTo self.now (Call.Join worker set) }
+        requires same { kept ≡ set }
+        ensures kept { IsKeptAs hand.old (Event.Join worker set) [] result hand.new }
+        ensures step { IsStepOf L.setup hand.old (Call.Join worker set) [] result hand.new }
     {
-        self.plain(rt, hand, &PlainCall::Join(worker, *set))
+        self.lock.lock(rt).join(hand, worker, set, kept)
     }
 
     /// `Master::die` under the lock.
@@ -237,14 +241,22 @@ impl<L: Ledger + OfJob> SharedMaster<L> {
         self.lock.lock(rt).reduce_start(alloc, hand)
     }
 
-    /// `Master::sweep` under the lock. The hand keeps the counts of the workers.
-    pub fn sweep<R: Wait>(&self, rt: &R, hand: &mut Hand<L>, counts: &[u64; 256]) -> Swept
-        ensures kept { IsKeptSweep hand.old counts.now result.answer hand.new }
-        ensures dead { AreDeadOf L.setup counts.now result }
-        ensures step { IsStepOf L.setup hand.old (Call.Sweep counts.now)
-            (own_counts hand.old (counts.now ∷ [])) result.answer hand.new }
+    /// `Master::sweep` under the lock. The hand keeps the counts. Where it is ignored, nobody is listed.
+    pub fn sweep<R: Wait>(
+        &self,
+        rt: &R,
+        hand: &mut Hand<L>,
+        counts: &[u64],
+        dead: &mut DeadList,
+    ) -> Answer
+        requires known { IsKnownTo self.now (Call.Sweep counts.now) }
+        requires room { self.now.workers ≤ dead.old.room }
+        ensures kept { IsKeptSweep hand.old counts.now result hand.new }
+        ensures dead { AreDeadOf L.setup counts.now result dead.new.items }
+        ensures room { dead.new.room ≡ dead.old.room }
+        ensures step { IsStepOf L.setup hand.old (Call.Sweep counts.now) (counts.now ∷ []) result hand.new }
     {
-        self.lock.lock(rt).sweep(hand, counts)
+        self.lock.lock(rt).sweep(hand, counts, dead)
     }
 
     /// What a master of the job shows at a glance, of a state that a history leads to. Where no event came
@@ -253,6 +265,14 @@ impl<L: Ledger + OfJob> SharedMaster<L> {
         ensures { IsShownOf L.setup result }
     {
         SharedGlance::of(self.lock.lock(rt).glance())
+    }
+
+    /// The lowest worker on which a second attempt of a split may start, if there is one, in such a state.
+    pub fn backup_worker<R: Wait>(&self, rt: &R, split: SplitNo) -> Option<WorkerNo>
+        requires { split < self.now.splits }
+        ensures { IsBackupWorkerOf L.setup split result }
+    {
+        self.lock.lock(rt).backup_worker(split)
     }
 
     /// The copies that bring each split of the job nearer to so many replicas, in such a state.

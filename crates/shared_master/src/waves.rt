@@ -284,7 +284,7 @@ fn keep_wave<L: Ledger>(
         hands,
         master.events(),
         &Event::Wave { first, count, cost },
-        &[],
+        None,
         &starts,
     );
     SharedWave { wave, starts }

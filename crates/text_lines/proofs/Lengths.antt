@@ -1,46 +1,67 @@
 -- How long a text may be that begins in some way, and what is read of it.
-use Rattle.std.proofs.Common.{ℕ, List, ◌≡◌, ◌+◌, ◌≤◌, ◌∙◌, ◌++◌, Bool, true, ap, arith, cond, drop}
-use Rattle.std.proofs.Common.{length, length-append, inl, inr, sym, take, take_all, append-nil, Option, Some, None}
-use Rattle.std.proofs.Common.{IfSome, refl}
-use Rattle.std.specs.Prelude.{◌==◌}
-use Rattle.std.specs.List.{starts_with}
+use Rattle.std.proofs.Common.{ℕ, List, ◌≡◌, ◌+◌, ◌≤◌, ◌∙◌, ◌++◌, ◌||◌, Bool, true, false, ap, arith, cond}
+use Rattle.std.proofs.Common.{drop, length, length-append, inl, inr, sym, take, take_all, append-nil, Option}
+use Rattle.std.proofs.Common.{IfSome, Some, None, refl}
+use Rattle.std.specs.Prelude.{◌==◌, codes}
 use Rattle.std.specs.Cmp.Lexicographic.{pointwise}
 use Rattle.std.specs.Io.KnownBytes.{Consumes, IsAtEnd}
 use Rattle.std.proofs.KnownBytes.{Consumes-trans}
+use Rattle.std.proofs.Math.Bool.{or-true}
 use Rattle.std.proofs.lemmas.Bool.{cases_Bool}
 use Rattle.std.proofs.lemmas.Bool.Decides.{Decides-eqb}
 use Rattle.std.proofs.lemmas.List.{take-append-le}
 use Rattle.std.proofs.lemmas.Slice.Eq.{starts_is}
-use Rattle.text_lines.specs.Streams.{ConsumesAtMost, ConsumesText, long_head, longest, most_read_of}
-
-abbrev begins_long : List ℕ → Bool
-begins_long text = starts_with (λ a b. a == b) text long_head
+use Rattle.text_lines.specs.Streams.{begins, is_long, longest, most_read_of}
+use Rattle.text_lines.specs.Streams.{ConsumesAtMost, ConsumesText}
 
 pub longest-least : (text : List ℕ) → 16777216 ≤ longest text
 longest-least text =
-    elim (cases_Bool (begins_long text)) [ inl is ↦ rw is (omega arith) | inr is ↦ rw is (omega arith) ]
+    elim (cases_Bool (is_long text)) [ inl is ↦ rw is (omega arith) | inr is ↦ rw is (omega arith) ]
 
 pub longest-most : (text : List ℕ) → longest text ≤ 268435456
 longest-most text =
-    elim (cases_Bool (begins_long text)) [ inl is ↦ rw is (omega arith) | inr is ↦ rw is (omega arith) ]
+    elim (cases_Bool (is_long text)) [ inl is ↦ rw is (omega arith) | inr is ↦ rw is (omega arith) ]
 
--- the first ten bytes decide
+-- as many bytes as a line has decide whether a text begins with it
+begins-settled : (line xs ys : List ℕ) → length line ≤ length xs → begins line (xs ++ ys) ≡ begins line xs
+begins-settled line xs ys le =
+    ap (λ (front : List ℕ). pointwise (λ a b. a == b) line front) (take-append-le (length line) xs ys le)
+
+-- so ten bytes decide how long a text may be
 pub longest-settled : (xs ys : List ℕ) → 10 ≤ length xs → longest (xs ++ ys) ≡ longest xs
 longest-settled xs ys le =
-    ap (λ (front : List ℕ). cond (pointwise (λ a b. a == b) long_head front) 268435456 16777216)
-    (take-append-le 10 xs ys le)
+    rw (
+      begins-settled (codes "problem 3\n") xs ys le,
+      begins-settled (codes "script 3\n") xs ys (omega (arith, le)),
+      begins-settled (codes "job 3\n") xs ys (omega (arith, le)),
+    ) refl
 
--- a text that begins with the first line of a long one has these bytes
-long_enough : (text : List ℕ) → begins_long text ≡ true → 10 ≤ length text
-long_enough text is =
-    let whole : text ≡ long_head ++ drop 10 text =
-    (starts_is Decides-eqb text long_head (begins_long text) refl).0 is in
-    omega (arith, ap length whole, length-append long_head (drop 10 text))
+-- a text that begins with a line has its bytes
+begins-long : (line text : List ℕ) → begins line text ≡ true → length line ≤ length text
+begins-long line text is =
+    let whole : text ≡ line ++ drop (length line) text =
+    (starts_is Decides-eqb text line (begins line text) refl).0 is in
+    omega (arith, ap length whole, length-append line (drop (length line) text))
+
+-- and begins so with more bytes
+begins-grows : (line xs ys : List ℕ) → begins line xs ≡ true → begins line (xs ++ ys) ≡ true
+begins-grows line xs ys is = begins-settled line xs ys (begins-long line xs is) ∙ is
+
+or-more : (a b c d : Bool) → (a ≡ true → c ≡ true) → (b ≡ true → d ≡ true) → (a || b) ≡ true
+    → (c || d) ≡ true
+or-more true b c d first second is = rw (first refl) refl
+or-more false b c d first second is = rw (second is) (or-true c)
+
+long-grows : (xs ys : List ℕ) → is_long xs ≡ true → is_long (xs ++ ys) ≡ true
+long-grows xs ys =
+    or-more _ _ _ _
+    (or-more _ _ _ _ (begins-grows (codes "problem 3\n") xs ys) (begins-grows (codes "script 3\n") xs ys))
+    (begins-grows (codes "job 3\n") xs ys)
 
 -- with more bytes a text may be as long, or longer
 pub longest-grows : (xs ys : List ℕ) → longest xs ≤ longest (xs ++ ys)
-longest-grows xs ys = elim (cases_Bool (begins_long xs)) [
-  | inl is ↦ (let same = longest-settled xs ys (long_enough xs is) in omega (arith, same))
+longest-grows xs ys = elim (cases_Bool (is_long xs)) [
+  | inl is ↦ rw (is, long-grows xs ys is) (omega arith)
   | inr is ↦ rw is (longest-least (xs ++ ys))
 ]
 

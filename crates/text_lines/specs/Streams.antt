@@ -1,23 +1,28 @@
 -- What a reader gives and a writer takes, where their bytes are known.
-use Rattle.std.specs.Prelude.{ℕ, List, ◌≡◌, ◌++◌, ◌+◌, ◌≤◌, ◌==◌, codes, cond, length, Option}
+use Rattle.std.specs.Prelude.{ℕ, List, ◌≡◌, ◌++◌, ◌+◌, ◌≤◌, ◌==◌, ◌||◌, Bool, codes, cond, length, Option}
 use Rattle.std.specs.List.{starts_with}
 use Rattle.std.specs.Io.KnownBytes.{Appends, Consumes}
 
--- the first line of a text that may be long
-abbrev pub long_head : List ℕ
-long_head = codes "problem 3\n"
+-- the text begins with this line
+abbrev pub begins : List ℕ → List ℕ → Bool
+begins line text = starts_with (λ a b. a == b) text line
 
--- how many bytes a text may have: 16 MiB, and 256 MiB where that is its first line
+-- its first line is that of a text of version 3
+abbrev pub is_long : List ℕ → Bool
+is_long text =
+    begins (codes "problem 3\n") text || begins (codes "script 3\n") text || begins (codes "job 3\n") text
+
+-- how many bytes a text may have: 256 MiB in version 3, 16 MiB before
 abbrev pub longest : List ℕ → ℕ
-longest text = cond (starts_with (λ a b. a == b) text long_head) 268435456 16777216
+longest text = cond (is_long text) 268435456 16777216
 
 -- the most bytes that are read of a text: one more than it may have
 abbrev pub most_read_of : List ℕ → ℕ
 most_read_of text = longest text + 1
 
--- of a text that may not be long
+-- of any text
 abbrev pub most_read : ℕ
-most_read = 16777217
+most_read = 268435457
 
 -- a writer took some front of the text, perhaps none or all of it
 pub record AppendsFront (old new : Option (List ℕ)) (text : List ℕ) : Type 0 where

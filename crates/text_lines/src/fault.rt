@@ -26,7 +26,7 @@ pub enum Fault {
     SecondEntry = 9,
     /// At `end` a split or a worker has no price.
     NoPrice = 10,
-    /// The text has more than 16,777,216 bytes, or 268,435,456 after the line `problem 3`.
+    /// The text has more than 16,777,216 bytes, or 268,435,456 in version 3.
     TooLong = 11,
     /// The last line has no line feed.
     NoFeed = 12,

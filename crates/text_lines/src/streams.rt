@@ -2,15 +2,14 @@ ghost use Rattle.std.specs.Prelude.{◌≡◌, ◌++◌, ◌-◌, ◌≤◌, ◌
 ghost use Rattle.std.specs.Prelude.{IfSome, MatchResult};
 ghost use Rattle.std.specs.Io.KnownBytes.{Appends, Consumes, IsAtEnd, Keeps};
 ghost use Rattle.text_lines.specs.Streams.{AppendsFront, ConsumesAtMost, ConsumesText, Moves, Reads};
-ghost use Rattle.text_lines.specs.Streams.{longest, most_read_of};
+ghost use Rattle.text_lines.specs.Streams.{is_long, longest, most_read_of};
 
 use std::alloc::{AllocError, Global};
 use std::io::{ErrorKind, Read, Write};
 use thiserror::Error;
 
-/// The most bytes that are read of a text that does not begin with the line `problem 3`: one more than it may
-/// have.
-pub const MAX_READ_BYTES: usize = 16_777_217;
+/// The most bytes that are read of a text: one more than one of version 3 may have.
+pub const MAX_READ_BYTES: usize = 268_435_457;
 
 /// The most calls that are made of a reader.
 pub const MAX_READS: u32 = 33_554_434;
@@ -40,15 +39,25 @@ enum Progress {
     End,
 }
 
-/// How many bytes a text may have that begins so: 16 MiB, and 256 MiB where its first line is `problem 3`.
+/// How many bytes a text may have that begins so: 16 MiB, and 256 MiB where its first line is `problem 3`,
+/// `script 3` or `job 3`.
 pub fn longest(text: &[u8]) -> usize
     ensures { result ≡ longest text.now }
 {
-    if text.starts_with(b"problem 3\n") {
+    if is_long(text) {
         268_435_456
     } else {
         16_777_216
     }
+}
+
+// Whether the first line is that of a text of version 3.
+fn is_long(text: &[u8]) -> bool
+    ensures { result ≡ is_long text.now }
+{
+    text.starts_with(b"problem 3\n")
+        || text.starts_with(b"script 3\n")
+        || text.starts_with(b"job 3\n")
 }
 
 /// All that the reader has, or as many bytes as the text may have and one more: no byte past those is asked

@@ -119,14 +119,94 @@ fn texts_to_check(rt: HostRuntime) {
     }
 }
 
+// Seventeen workers, and the first eight, nine, sixteen and seventeen of them as holders.
+const WORKERS: &str =
+    "worker a r 0\nworker b r 0\nworker c r 0\nworker d r 0\nworker e r 0\nworker f r 0\n\
+worker g r 0\nworker h r 0\nworker i r 0\nworker j r 0\nworker k r 0\nworker l r 0\n\
+worker m r 0\nworker n r 0\nworker o r 0\nworker p r 0\nworker q r 0\n";
+
+const EIGHT: &str = "a b c d e f g h";
+
+const NINE: &str = "a b c d e f g h i";
+
+const SIXTEEN: &str = "a b c d e f g h i j k l m n o p";
+
+const SEVENTEEN: &str = "a b c d e f g h i j k l m n o p q";
+
+// What a text is read for, how it begins, the holders of its one split, and its fault.
+const HELD: [(Purpose, &str, &str, Option<(u32, u8)>); 11] = [
+    (Purpose::Planning, "problem 1\nrack r\n", EIGHT, None),
+    (
+        Purpose::Planning,
+        "problem 1\nrack r\n",
+        NINE,
+        Some((20, 6)),
+    ),
+    (
+        Purpose::Planning,
+        "problem 3\ncentre z\nrack r z\n",
+        SIXTEEN,
+        None,
+    ),
+    (
+        Purpose::Planning,
+        "problem 3\ncentre z\nrack r z\n",
+        SEVENTEEN,
+        Some((21, 6)),
+    ),
+    (
+        Purpose::Checking,
+        "problem 3\ncentre z\nrack r z\n",
+        SEVENTEEN,
+        Some((21, 6)),
+    ),
+    (Purpose::Playing, "script 1\nrack r\n", EIGHT, None),
+    (Purpose::Playing, "script 1\nrack r\n", NINE, Some((20, 6))),
+    (
+        Purpose::Playing,
+        "script 3\ncentre z\nrack r z\n",
+        SIXTEEN,
+        None,
+    ),
+    (
+        Purpose::Playing,
+        "script 3\ncentre z\nrack r z\n",
+        SEVENTEEN,
+        Some((21, 6)),
+    ),
+    (
+        Purpose::Running,
+        "job 3\ncentre z\nrack r z\n",
+        SIXTEEN,
+        None,
+    ),
+    (
+        Purpose::Running,
+        "job 3\ncentre z\nrack r z\n",
+        SEVENTEEN,
+        Some((21, 6)),
+    ),
+];
+
+// How a text ends that is read for this.
+fn last_lines(purpose: Purpose) -> &'static str {
+    match purpose {
+        Purpose::Playing => "begin\nend\n",
+        Purpose::Checking | Purpose::Planning | Purpose::Running => "end\n",
+    }
+}
+
 #[test]
-fn a_ninth_holder_passes_the_limit(rt: HostRuntime) {
-    let text =
-        "problem 1\nrack r\nworker a r 0\nworker b r 0\nworker c r 0\nworker d r 0\nworker e r 0\n\
-worker f r 0\nworker g r 0\nworker h r 0\nworker i r 0\nsplit s 1 a b c d e f g h\n\
-split t 1 a b c d e f g h i\n";
-    assert_eq!(rt;
-        fault_of(rt.alloc(), Purpose::Planning, text),
-        Some((13, 6))
-    );
+fn holders_past_the_most(rt: HostRuntime) {
+    for (purpose, first, holders, fault) in HELD {
+        let end = last_lines(purpose);
+        let text = format!(in rt.alloc(); "{first}{WORKERS}split s 1 {holders}\n{end}").expect(
+            &rt, "no text",
+        );
+        assert_eq!(rt;
+            fault_of(rt.alloc(), purpose, &text),
+            fault,
+            "{first}{holders}"
+        );
+    }
 }

@@ -1,3 +1,4 @@
+use block_map::HolderLimit;
 use command_runner::AnswerLines;
 use job_play::{PlayEnd, fits, play_script};
 use master_core::Cluster;
@@ -14,7 +15,17 @@ fn cluster_of(alloc: Global, text: &str) -> Option<Cluster> {
     let head = read.head;
     let (tree, splits, texts) = (head.tree, head.splits, head.texts);
     let (slots, parts, silence) = (head.slots, head.parts, head.silence);
-    Cluster::new(alloc, tree, slots.as_slice(), splits, texts, parts, silence).ok()
+    Cluster::new(
+        alloc,
+        tree,
+        slots.as_slice(),
+        splits,
+        texts,
+        parts,
+        silence,
+        HolderLimit::Eight,
+    )
+    .ok()
 }
 
 // How a script ends on a cluster that it fits, and its report.

@@ -110,9 +110,14 @@ fn faults_of_each_kind(rt: HostRuntime) {
     }
 }
 
-// A job of so many workers.
-fn job_of(alloc: Global, workers: u8) -> Result<String, AllocError> {
-    let mut text = String::from_str(alloc, "job 1\nrack r\n")?;
+// A job of a version with so many workers.
+fn job_of(alloc: Global, version: u8, workers: u16) -> Result<String, AllocError> {
+    let rack = if version == 1 {
+        "rack r"
+    } else {
+        "centre z\nrack r z"
+    };
+    let mut text = format!(in alloc; "job {version}\n{rack}\n")?;
     for worker in 0..workers {
         text.push_str(&format!(in alloc; "worker w{worker} r 1\n")?)?;
     }
@@ -120,12 +125,86 @@ fn job_of(alloc: Global, workers: u8) -> Result<String, AllocError> {
     Ok(text)
 }
 
+// Versions, how many workers a job of each has, and the fault of the text.
+const WORKERS: [(u8, u16, Option<(u32, u8)>); 6] = [
+    (1, 32, None),
+    (1, 33, Some((35, 6))),
+    (2, 32, None),
+    (2, 33, Some((36, 6))),
+    (3, 1024, None),
+    (3, 1025, Some((1028, 6))),
+];
+
 #[test]
-fn a_job_has_at_most_thirty_two_workers(rt: HostRuntime) {
-    for (workers, fault) in [(32, None), (33, Some((35, 6)))] {
-        let text = job_of(rt.alloc(), workers).expect(&rt, "no text");
+fn a_job_has_so_many_workers_by_its_version(rt: HostRuntime) {
+    for (version, workers, fault) in WORKERS {
+        let text = job_of(rt.alloc(), version, workers).expect(&rt, "no text");
         let told = fault_of(rt.alloc(), Purpose::Running, &text);
-        assert_eq!(rt; (workers, told), (workers, fault));
+        assert_eq!(rt; (version, workers, told), (version, workers, fault));
+    }
+}
+
+// Declares so many splits.
+fn add_splits(alloc: Global, text: &mut String, splits: u32) -> Result<(), AllocError> {
+    for number in 0..splits {
+        text.push_str(&format!(in alloc; "split s{number} 0\n")?)?;
+    }
+    Ok(())
+}
+
+// A script of a version with so many splits.
+fn splits_of(alloc: Global, version: u8, splits: u32) -> Result<String, AllocError> {
+    let mut text = format!(in alloc; "script {version}\n")?;
+    add_splits(alloc, &mut text, splits)?;
+    text.push_str("begin\nend\n")?;
+    Ok(text)
+}
+
+// Versions, how many splits a script of each has, and the fault of the text.
+const SPLITS: [(u8, u32, Option<(u32, u8)>); 6] = [
+    (1, 1024, None),
+    (1, 1025, Some((1026, 6))),
+    (2, 1024, None),
+    (2, 1025, Some((1026, 6))),
+    (3, 131_072, None),
+    (3, 131_073, Some((131_074, 6))),
+];
+
+#[test]
+fn a_script_has_so_many_splits_by_its_version(rt: HostRuntime) {
+    for (version, splits, fault) in SPLITS {
+        let text = splits_of(rt.alloc(), version, splits).expect(&rt, "no text");
+        let told = fault_of(rt.alloc(), Purpose::Playing, &text);
+        assert_eq!(rt; (version, splits, told), (version, splits, fault));
+    }
+}
+
+// A script of 1,100 splits with a join of all but the last of them, and one more.
+fn joined(alloc: Global, one: u32) -> Result<String, AllocError> {
+    let mut text = format!(in alloc; "script 3\ncentre z\nrack r z\nworker w r 1\n")?;
+    add_splits(alloc, &mut text, 1100)?;
+    text.push_str("begin\njoin w")?;
+    for number in 0..1099 {
+        text.push_str(&format!(in alloc; " s{number}")?)?;
+    }
+    text.push_str(&format!(in alloc; " s{one}\nend\n")?)?;
+    Ok(text)
+}
+
+// The last split of the join, and the fault of the text.
+const JOINED: [(u32, Option<(u32, u8)>); 4] = [
+    (1099, None),
+    (1098, Some((1106, 8))),
+    (0, Some((1106, 8))),
+    (1100, Some((1106, 3))),
+];
+
+#[test]
+fn a_join_of_many_splits_names_each_once(rt: HostRuntime) {
+    for (one, fault) in JOINED {
+        let text = joined(rt.alloc(), one).expect(&rt, "no text");
+        let told = fault_of(rt.alloc(), Purpose::Playing, &text);
+        assert_eq!(rt; (one, told), (one, fault));
     }
 }
 
@@ -135,6 +214,52 @@ reduce\ndone 3\nreduce\ndone 4\nend\n";
 
 const JOB: &str = "job 1\nparts 2\nrack r\nworker a r 1\nsplit s 3 a\ndoc d1 s The cat\n\
 doc d2 s cat, THE dog\nend\n";
+
+// A script of a version with so many commands.
+fn script_of(alloc: Global, version: u8, commands: u32) -> Result<String, AllocError> {
+    let mut text = format!(in alloc; "script {version}\nbegin\n")?;
+    for _ in 0..commands {
+        text.push_str("wave\n")?;
+    }
+    text.push_str("end\n")?;
+    Ok(text)
+}
+
+// Versions, how many commands a script of each has or how many documents a job, and the fault of the text.
+const MANY: [(u8, u32, Option<(u32, u8)>); 4] = [
+    (1, 65_537, Some((65_539, 6))),
+    (2, 65_536, None),
+    (2, 65_537, Some((65_539, 6))),
+    (3, 65_537, None),
+];
+
+#[test]
+fn a_script_has_so_many_commands_by_its_version(rt: HostRuntime) {
+    for (version, commands, fault) in MANY {
+        let text = script_of(rt.alloc(), version, commands).expect(&rt, "no text");
+        let told = fault_of(rt.alloc(), Purpose::Playing, &text);
+        assert_eq!(rt; (version, commands, told), (version, commands, fault));
+    }
+}
+
+// A job of a version with so many documents.
+fn documents_of(alloc: Global, version: u8, documents: u32) -> Result<String, AllocError> {
+    let mut text = format!(in alloc; "job {version}\nsplit s 0\n")?;
+    for number in 0..documents {
+        text.push_str(&format!(in alloc; "doc d{number} s\n")?)?;
+    }
+    text.push_str("end\n")?;
+    Ok(text)
+}
+
+#[test]
+fn a_job_has_so_many_documents_by_its_version(rt: HostRuntime) {
+    for (version, documents, fault) in MANY {
+        let text = documents_of(rt.alloc(), version, documents).expect(&rt, "no text");
+        let told = fault_of(rt.alloc(), Purpose::Running, &text);
+        assert_eq!(rt; (version, documents, told), (version, documents, fault));
+    }
+}
 
 #[test]
 fn each_front_of_a_job_has_a_fault(rt: HostRuntime) {

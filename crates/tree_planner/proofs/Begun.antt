@@ -12,15 +12,18 @@ use Rattle.tree_flow.proofs.Moved.{same_or_not}
 use Rattle.tree_planner.specs.declared.search.Goal.TheVariants.{Wait}
 use Rattle.tree_planner.specs.declared.search.Ground.{Ground}
 use Rattle.tree_planner.specs.declared.search.Search.{Search}
-use Rattle.tree_planner.specs.Searching.{far_at, order_at, place_at, reached_at, wave_of, HasReached}
+use Rattle.tree_planner.specs.Searching.{far_at, order_at, place_at, reached_at, state_at, wave_of}
+use Rattle.tree_planner.specs.Searching.{HasReached}
 use Rattle.tree_planner.specs.Searching.{HasTables, IsBlank, IsCovered, IsGround, IsSearching}
 use Rattle.tree_planner.specs.declared.covers.Cover.{Cover}
 use Rattle.tree_planner.specs.Covers.{no_cover, IsOverInner}
+use Rattle.tree_planner.specs.Lows.{AreLow}
 
 pub begun : (g : Ground) → IsGround g → (search : Search) → IsBlank (wave_of g).tree (length g.nodes.now) search
     → (split least : ℕ) → split < length (wave_of g).splits → least ≤ reward (wave_of g)
     → (covers : NodeTable Cover) → IsOverInner (wave_of g).tree covers
     → ((u : TreeNode) → at_or covers no_cover u ≡ no_cover)
+    → AreLow (wave_of g) (state_at g) search.lows
     → IsSearching g (record search {
       split = split;
       least = least;
@@ -31,7 +34,7 @@ pub begun : (g : Ground) → IsGround g → (search : Search) → IsBlank (wave_
       looked = 0;
       covers = covers;
     })
-begun g ground search blank split least known most covers over uncovered =
+begun g ground search blank split least known most covers over uncovered low =
     let worth = ground.worth in
     let small = ground.small in
     let begins : Search = record search {
@@ -76,6 +79,7 @@ begun g ground search blank split least known most covers over uncovered =
         known = omega arith;
         near = λ v left. omega arith;
       });
+      low = low;
     }
 
 -- the node stands in the row past the first k

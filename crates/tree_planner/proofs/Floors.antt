@@ -127,6 +127,7 @@ module _ (old new : Search) (rest : AreFloorsNew old new) where
     bottom = s.bottom;
     shut = s.shut;
     covered = λ u. cover_kept old raised raised_nearer g (cover_at old u) u (s.covered u);
+    low = s.low;
   })
 
 -- the search has looked from as many nodes

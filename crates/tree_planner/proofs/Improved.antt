@@ -439,6 +439,7 @@ module _ (old : Search) (far : NodeTable ℕ) (how : NodeTable Step) (node : Tre
     bottom = bottom;
     shut = s.shut;
     covered = λ u. cover_kept old reached reach_nearer g (cover_at old u) u (s.covered u);
+    low = s.low;
   }
 
   far_other : (v : TreeNode) → v ≢ node → far_at reached v ≡ far_at old v
@@ -523,6 +524,7 @@ module _ (old : Search) (goal : Goal) (distance : ℕ) (bound : distance < old.b
     bottom = λ v some. (let past = s.bottom v some in omega arith);
     shut = s.shut;
     covered = λ u. cover_kept old arrived arrive_nearer g (cover_at old u) u (s.covered u);
+    low = s.low;
   }
 
 -- a node that is looked from next
@@ -625,6 +627,7 @@ module _ (g : Ground) (old : Search) (order : NodeTable ℕ) (c : TreeNode) (s :
       | inr n ↦ s.shut v (let same = others v n in omega arith)
     ];
     covered = λ u. cover_kept old settled settle_nearer g (cover_at old u) u (s.covered u);
+    low = s.low;
   }
 
   -- at the end of the search
@@ -729,4 +732,5 @@ module _ (old : Search) (covers : NodeTable Cover) (node : TreeNode) (cover : Co
       | inr n ↦ subst (λ cover. IsCovered g covering cover u) (sym (others u n))
           (cover_kept old covering covered_nearer g (cover_at old u) u (s.covered u))
     ];
+    low = s.low;
   }

@@ -39,3 +39,4 @@ pub mod Placed
 pub mod Flagged
 pub mod Floors
 pub mod Paired
+pub mod Lowered

@@ -22,6 +22,7 @@ use Rattle.tree_planner.specs.Covers.{no_cover, IsOverInner}
 use Rattle.tree_planner.specs.Ends.{ends_at, AreEnds, Grouped, IsBarred, IsLeft, IsOf}
 use Rattle.tree_planner.specs.Reaching.{floor_in, place_in}
 use Rattle.tree_planner.specs.Hanging.{AreChildren}
+use Rattle.tree_planner.specs.Lows.{AreLow}
 use Rattle.tree_flow.specs.Moves.{IsLookedFrom}
 use Rattle.tree_flow.specs.Nodes.{parent, AreNodes, IsEnd, IsKnown, IsNode}
 use Rattle.tree_flow.specs.State.{State, place_of, reach_cost, slots_of, sum_under, IsKept}
@@ -210,6 +211,7 @@ pub record IsSearching (g : Ground) (search : Search) : Type 0 where
   pub bottom : (v : TreeNode) → 0 < sum_under (wave_of g) v (state_at g).free → search.bound ≤ far_at search v
   pub shut : (v : TreeNode) → 0 < order_at search v → sum_under (wave_of g) v (state_at g).free ≡ 0
   pub covered : (u : TreeNode) → IsCovered g search (cover_at search u) u
+  pub low : AreLow (wave_of g) (state_at g) search.lows
 
 -- a node in which the way ends was looked from too, and no node before it has a free slot under it
 abbrev pub IsLastOne : Ground → Search → Goal → Type 0

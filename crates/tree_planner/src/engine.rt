@@ -9,6 +9,7 @@ ghost use Rattle.tree_planner.specs.Engine.{with_depth, IsFixed, IsStanding};
 ghost use Rattle.tree_planner.specs.Searching.{HasReached, HasTables, IsBlank, IsGround};
 ghost use Rattle.tree_flow.specs.Table.{at_node};
 ghost use Rattle.tree_flow.specs.State.{place_of};
+ghost use Rattle.tree_planner.specs.Lows.{AreLow};
 ghost use Rattle.tree_planner.specs.View.{state_of};
 ghost use Rattle.tree_planner.specs.Choosing.{IsChoice, IsLeast};
 ghost use Rattle.tree_planner.specs.Way.{AreDeeper, AreOthersSame, IsReady, StartsTight};
@@ -80,10 +81,12 @@ pub fn ship(problem: &Problem, fixed: &Fixed, tables: &mut Tables, search: &mut 
     requires blank { IsBlank problem.now.tree (length fixed.now.nodes.items) search.old }
     requires split { split < length problem.now.splits }
     requires unshipped { place_of (state_of tables.old) split ≡ Unshipped }
+    requires low { AreLow problem.now (state_of tables.old) search.old.lows }
     ensures standing { IsStanding problem.now tables.new }
     ensures shipped { place_of (state_of tables.new) split ≢ Unshipped }
     ensures others { AreOthersSame (state_of tables.old) (state_of tables.new) split }
     ensures blank { IsBlank problem.now.tree (length fixed.now.nodes.items) search.new }
+    ensures low { AreLow problem.now (state_of tables.new) search.new.lows }
 {
     match choice(problem, fixed, tables, split) {
         Choice::Wait => place(problem, tables, split, Place::Waits),
@@ -133,6 +136,7 @@ fn stand(problem: &Problem, fixed: &Fixed, tables: &mut Tables, split: u32, end:
     ensures standing { IsStanding problem.now tables.new }
     ensures shipped { place_of (state_of tables.new) split ≢ Unshipped }
     ensures others { AreOthersSame (state_of tables.old) (state_of tables.new) split }
+    ensures depth { tables.new.depth ≡ tables.old.depth }
 {
     take_below(problem, &fixed.children, tables, end.node);
     place(problem, tables, split, Place::Stands(end));
@@ -153,10 +157,12 @@ fn search_and_follow(
     requires split { split < length problem.now.splits }
     requires unshipped { place_of (state_of tables.old) split ≡ Unshipped }
     requires least { IsLeast problem.now (state_of tables.old) split least }
+    requires low { AreLow problem.now (state_of tables.old) search.old.lows }
     ensures standing { IsStanding problem.now tables.new }
     ensures shipped { place_of (state_of tables.new) split ≢ Unshipped }
     ensures others { AreOthersSame (state_of tables.old) (state_of tables.new) split }
     ensures blank { IsBlank problem.now.tree (length fixed.now.nodes.items) search.new }
+    ensures low { AreLow problem.now (state_of tables.new) search.new.lows }
 {
     find(problem, fixed, tables, search, split, least);
     deepen(problem, fixed.reward, &mut tables.depth, search);
@@ -179,7 +185,9 @@ fn find(
     requires split { split < length problem.now.splits }
     requires unshipped { place_of (state_of tables.now) split ≡ Unshipped }
     requires least { IsLeast problem.now (state_of tables.now) split least }
+    requires low { AreLow problem.now (state_of tables.now) search.old.lows }
     ensures split { search.new.split ≡ split }
+    ensures low { AreLow problem.now (state_of tables.now) search.new.lows }
     ensures tables { HasTables problem.now.tree search.new }
     ensures reached { HasReached problem.now.tree search.new }
     ensures room { length search.new.reached.nodes.items ≡ length fixed.now.nodes.items }
@@ -203,14 +211,42 @@ pub fn ship_once(
     requires standing { IsStanding problem.now tables.old }
     requires blank { IsBlank problem.now.tree (length fixed.now.nodes.items) search.old }
     requires split { split < length problem.now.splits }
+    requires low { AreLow problem.now (state_of tables.old) search.old.lows }
     ensures standing { IsStanding problem.now tables.new }
     ensures shipped { place_of (state_of tables.new) split ≢ Unshipped }
     ensures others { AreOthersSame (state_of tables.old) (state_of tables.new) split }
     ensures blank { IsBlank problem.now.tree (length fixed.now.nodes.items) search.new }
+    ensures low { AreLow problem.now (state_of tables.new) search.new.lows }
 {
     if let Place::Unshipped = place_at(tables, split as usize) {
         ship(problem, fixed, tables, search, split);
     }
+}
+
+// Ships the split of this number, if there is one and it is not shipped already.
+fn ship_if_known(
+    problem: &Problem,
+    fixed: &Fixed,
+    tables: &mut Tables,
+    search: &mut Search,
+    split: u32,
+)
+    requires fixed { IsFixed problem.now fixed.now }
+    requires standing { IsStanding problem.now tables.old }
+    requires low { AreLow problem.now (state_of tables.old) search.old.lows }
+    requires blank { IsBlank problem.now.tree (length fixed.now.nodes.items) search.old }
+    ensures standing { IsStanding problem.now tables.new }
+    ensures blank { IsBlank problem.now.tree (length fixed.now.nodes.items) search.new }
+    ensures low { AreLow problem.now (state_of tables.new) search.new.lows }
+{
+    if (split as usize) < problem.splits() {
+        ship_once(problem, fixed, tables, search, split);
+    }
+}
+
+// Of how many splits lows are kept: they are worth their memory where many splits stand on a node.
+fn splits_with_lows(splits: usize, nodes: usize) -> usize {
+    if splits / 16 >= nodes { splits } else { 0 }
 }
 
 // Ships the splits in the order in which the fewest searches are needed.
@@ -224,12 +260,11 @@ fn ship_in_order(
     requires standing { IsStanding problem.now tables.old }
     ensures { IsStanding problem.now tables.new }
 {
-    let mut search = Search::new(alloc, problem.tree(), fixed.nodes.len())?;
+    let lows = splits_with_lows(problem.splits(), fixed.nodes.len());
+    let mut search = Search::new(alloc, problem.tree(), fixed.nodes.len(), lows)?;
     let order = shipping_order(alloc, problem, fixed.slots.get(TreeNode::Cluster))?;
     for split in &order {
-        if (*split as usize) < problem.splits() {
-            ship_once(problem, fixed, tables, &mut search, *split);
-        }
+        ship_if_known(problem, fixed, tables, &mut search, *split);
     }
     Ok(())
 }
@@ -279,7 +314,7 @@ fn ship_each(
     ensures shipped { OnOk result ((s : ℕ) → s < length problem.now.splits
         → place_of (state_of tables.new) s ≢ Unshipped) }
 {
-    let mut search = Search::new(alloc, problem.tree(), fixed.nodes.len())?;
+    let mut search = Search::new(alloc, problem.tree(), fixed.nodes.len(), 0)?;
     for s in 0..problem.splits() {
         ship_once(problem, fixed, tables, &mut search, s as u32);
     }

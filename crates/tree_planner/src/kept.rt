@@ -1,5 +1,6 @@
 //! A plan that is kept while splits are shipped one after another.
-ghost use Rattle.std.specs.Prelude.{◌≡◌, ◌≢◌, ℕ, ◌<◌, ◌≤◌, false, true, All, IfOk, IfSome, OnOk, OnErr, None, length};
+ghost use Rattle.std.specs.Prelude.{◌≡◌, ◌≢◌, ℕ, ◌<◌, ◌≤◌, false, true, All, IfOk, IfSome, OnOk, OnErr};
+ghost use Rattle.std.specs.Prelude.{None, length};
 ghost use Rattle.wave_problem.specs.declared.TheConstants.{MAX_SLOTS};
 ghost use Rattle.wave_problem.specs.Wave.{split_at, worker_at, IsAdmissible, IsUsable};
 ghost use Rattle.price_certificate.specs.Certificate.{claim, worker_price, Certifies, HasOneSize};
@@ -103,7 +104,7 @@ impl Engine {
         ensures err { OnErr result (self.new ≡ self.old) }
     {
         let nodes = self.fixed.nodes.len();
-        let mut search = Search::new(alloc, self.problem.tree(), nodes)?;
+        let mut search = Search::new(alloc, self.problem.tree(), nodes, 0)?;
         let split = split.index() as u32;
         self.settled = false;
         ship(

@@ -24,6 +24,7 @@ mod kept;
 mod like;
 mod lists;
 mod lose;
+mod lows;
 mod order;
 mod over;
 mod prices;

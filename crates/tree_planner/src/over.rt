@@ -1,21 +1,25 @@
 //! Steps of a search by which a split leaves the end at which it stands.
-ghost use Rattle.std.specs.Prelude.{◌≡◌, ◌+◌, ◌<◌, ◌≤◌, ℕ, length};
+ghost use Rattle.std.specs.Prelude.{◌≡◌, ◌≢◌, ◌+◌, ◌^◌, ◌<◌, ◌≤◌, ℕ, length, IsTrue};
 ghost use Rattle.tree_flow.specs.declared.nodes.End.{End};
 ghost use Rattle.tree_flow.specs.declared.nodes.Place.TheVariants.{Stands};
 ghost use Rattle.tree_flow.specs.declared.nodes.TreeNode.{TreeNode};
 ghost use Rattle.tree_flow.specs.Nodes.{IsEnd, IsNode};
-ghost use Rattle.tree_flow.specs.State.{place_of};
+ghost use Rattle.tree_flow.specs.State.{place_of, reach_cost};
+ghost use Rattle.tree_planner.specs.Lows.{IsLeastBut};
 ghost use Rattle.tree_planner.specs.declared.split_ends.Group.TheVariants.{Below};
 ghost use Rattle.tree_planner.specs.Ends.{ends_at, IsLeft, IsOf};
-ghost use Rattle.tree_planner.specs.Searching.{state_at, wave_of, AreOf, GoesAllOver, Improves, IsAt, IsGround};
+ghost use Rattle.tree_planner.specs.Searching.{state_at, wave_of, AreOf, GoesAllOver, Improves, IsAt};
+ghost use Rattle.tree_planner.specs.Searching.{IsGround};
 ghost use Rattle.tree_planner.specs.Searching.{IsLeaving, IsOut, IsOutBy, IsOverTo, IsSearching};
 
+use crate::lows::Low;
+use crate::reached::FAR;
 use crate::search::{
     Goal, Ground, Search, Step, cost_at, cost_below, end_cost, ends_of, is_free, is_inner,
     nodes_below,
 };
 use crate::split_ends::{Ends, Group, is_left};
-use crate::tree_nodes::next_above;
+use crate::tree_nodes::{is_same, next_above};
 use tree_flow::{End, TreeNode};
 
 /// A split that may leave the end at which it stands: how far the end is, and what the split costs there.
@@ -52,9 +56,88 @@ pub fn hand_over(ground: &Ground<'_>, search: &mut Search, split: u32, end: End)
         far,
         spent,
     };
+    if stays(ground, search, leaving) {
+        return;
+    }
     let ends = ends_of(ground, split);
     for group in ends.groups() {
         over_group(ground, search, leaving, &ends, *group);
+    }
+    learn_low(ground, search, split, end.node);
+}
+
+// Whether it is known that a split comes no nearer at any other end than the nearest end of a way.
+fn stays(ground: &Ground<'_>, search: &Search, leaving: Leaving) -> bool
+    requires ground { IsGround ground.now }
+    requires searching { IsSearching ground.now search.now }
+    requires leaving { IsLeaving ground.now search.now leaving }
+    ensures { IsTrue result → (x : End) → IsEnd (wave_of ground.now) leaving.split x
+        → IsOverTo ground.now search.now leaving.end leaving.split x }
+{
+    let _ = ground;
+    let low = search.lows.of(leaving.split);
+    if is_same(low.node, leaving.end.node) {
+        return is_past_bound(search, leaving, low.least);
+    }
+    false
+}
+
+// Whether an end that costs this is surely no nearer than the nearest end of a way.
+fn is_past_bound(search: &Search, leaving: Leaving, cost: u64) -> bool
+    requires bound { search.now.bound + leaving.spent < 2 ^ 64 }
+    requires far { leaving.far + cost < 2 ^ 64 }
+    ensures { IsTrue result → search.now.bound + leaving.spent ≤ leaving.far + cost }
+{
+    search.bound + leaving.spent <= leaving.far + cost
+}
+
+// Notes what a split would pay at least at another node, if it has a low.
+fn learn_low(ground: &Ground<'_>, search: &mut Search, split: u32, node: TreeNode)
+    requires ground { IsGround ground.now }
+    requires split { split < length (wave_of ground.now).splits }
+    requires searching { IsSearching ground.now search.old }
+    ensures searching { IsSearching ground.now search.new }
+    ensures improves { Improves search.old search.new }
+{
+    if search.lows.has(split) {
+        let least = least_elsewhere(ground, split, node);
+        search.note_low(split, Low { node, least });
+    }
+}
+
+// What a split would pay at least at another node; for groups of nodes, if one of them lay at 0.
+fn least_elsewhere(ground: &Ground<'_>, split: u32, node: TreeNode) -> u64
+    requires ground { IsGround ground.now }
+    requires split { split < length (wave_of ground.now).splits }
+    ensures least { IsLeastBut (wave_of ground.now) (state_at ground.now) split node result }
+    ensures most { result ≤ 2 ^ 54 }
+{
+    let mut least = FAR;
+    let ends = ends_of(ground, split);
+    for group in ends.groups() {
+        least = least_of(ground, split, node, &ends, *group).min(least);
+    }
+    least
+}
+
+// The same of a group.
+fn least_of(ground: &Ground<'_>, split: u32, node: TreeNode, ends: &Ends<'_>, group: Group) -> u64
+    requires ground { IsGround ground.now }
+    requires split { split < length (wave_of ground.now).splits }
+    requires group { AreOf ground.now split (IsOutBy ground.now ends.now) group }
+    ensures { (x : End) → IsOf (wave_of ground.now).tree (IsOutBy ground.now ends.now) group x
+        → x.node ≢ node → result ≤ reach_cost (wave_of ground.now) (state_at ground.now) split x }
+{
+    let _ = ends;
+    match group {
+        Group::Single(other) => {
+            if is_same(other.node, node) {
+                FAR
+            } else {
+                cost_at(ground, split, other)
+            }
+        }
+        Group::Below(_, level) => end_cost(ground, split, level),
     }
 }
 

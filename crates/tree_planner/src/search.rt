@@ -20,11 +20,14 @@ ghost use Rattle.tree_planner.specs.Reaching.{HasRoom};
 ghost use Rattle.tree_planner.specs.Searching.{place_at, reached_at, AreFloorsNew, HasReached, HasTables};
 ghost use Rattle.tree_planner.specs.Searching.{IsBlank, IsCandidate};
 ghost use Rattle.tree_planner.specs.Searching.{AreOf, IsCovered, IsLeaving, IsOut, IsOutBy};
-ghost use Rattle.tree_planner.specs.Searching.{LeadsTo, IsNearest, IsStartedAt, Settles, IsDown, GoesAllOver, IsOverTo};
+ghost use Rattle.tree_planner.specs.Searching.{LeadsTo, IsNearest, IsStartedAt, Settles, IsDown};
+ghost use Rattle.tree_planner.specs.Searching.{GoesAllOver, IsOverTo};
 ghost use Rattle.tree_flow.specs.Table.{HasNode, IsSized};
+ghost use Rattle.tree_planner.specs.Lows.{low_at, no_low, AreLow, IsLow};
 
 use crate::children::Children;
 use crate::covers::{Cover, Covers};
+use crate::lows::{Low, Lows};
 use crate::over::hand_over;
 use crate::reached::{BLOCK, FAR, Reached};
 use crate::split_ends::{AllEnds, Ends, Group, is_left};
@@ -83,8 +86,9 @@ pub struct Ground<'a> {
 
 /// Which split is shipped, what its cheapest end costs at least, and how far a way may go; how far each node
 /// is, how it was come to, as which one it was looked from; the nodes that were come to; how near the nodes
-/// below each node are; and the nearest end of a way, and how far it is. Its tables serve one search after
-/// another: between two of them no node has been come to.
+/// below each node are; what each split would pay at least at another node; and the nearest end of a way, and
+/// how far it is. Its tables serve one search after another: between two of them no node has been come to, and
+/// the lows hold on, as nodes then lie no less deep.
 #[derive(Drop)]
 pub struct Search {
     pub split: u32,
@@ -95,21 +99,29 @@ pub struct Search {
     pub order: NodeTable<u64>,
     pub reached: Reached,
     pub covers: Covers,
+    pub lows: Lows,
     pub looked: u64,
     pub bound: u64,
     pub goal: Goal,
 }
 
 impl Search {
-    /// Room for searches over so many nodes of a tree.
-    pub fn new(alloc: Global, tree: &RackTree, nodes: usize) -> Result<Search, AllocError>
-        ensures { IfOk result (λ search. IsBlank tree.now nodes search) }
+    /// Room for searches over so many nodes of a tree, and for the lows of so many splits.
+    pub fn new(
+        alloc: Global,
+        tree: &RackTree,
+        nodes: usize,
+        splits: usize,
+    ) -> Result<Search, AllocError>
+        ensures blank { IfOk result (λ search. IsBlank tree.now nodes search) }
+        ensures lows { IfOk result (λ search. (s : ℕ) → low_at search.lows s ≡ no_low) }
     {
         let far = NodeTable::new(alloc, tree, FAR)?;
         let how = NodeTable::new(alloc, tree, Step::Down)?;
         let order = NodeTable::new(alloc, tree, 0)?;
         let reached = Reached::new(alloc, tree, nodes)?;
         let covers = Covers::new(alloc, tree)?;
+        let lows = Lows::new(alloc, splits)?;
         Ok(Search {
             split: 0,
             least: 0,
@@ -119,6 +131,7 @@ impl Search {
             order,
             reached,
             covers,
+            lows,
             looked: 0,
             bound: 0,
             goal: Goal::Wait,
@@ -130,7 +143,8 @@ impl Search {
         requires tables { HasTables tree.now self.old }
         requires reached { HasReached tree.now self.old }
         requires short { self.old.limit < 2 ^ 54 }
-        ensures { IsBlank tree.now (length self.old.reached.nodes.items) self.new }
+        ensures blank { IsBlank tree.now (length self.old.reached.nodes.items) self.new }
+        ensures lows { self.new.lows ≡ self.old.lows }
     {
         let _ = tree;
         for k in 0..self.reached.count {
@@ -212,6 +226,15 @@ impl Search {
         ensures same { self.new ≡ record self.old { covers = self.new.covers } }
     {
         self.covers.put(top, Cover { offset, split });
+    }
+
+    /// Gives a split another low.
+    pub fn note_low(&mut self, split: u32, low: Low)
+        ensures improves { Improves self.old self.new }
+        ensures kept { (g : Ground) → IsSearching g self.old → IsLow (wave_of g) (state_at g) split low
+            → IsSearching g self.new }
+    {
+        self.lows.put(split, low);
     }
 
     // Puts the node next in order.
@@ -346,8 +369,10 @@ pub fn find_way(ground: &Ground<'_>, search: &mut Search, split: u32, least: u64
     requires blank { IsBlank (wave_of ground.now).tree (length ground.now.nodes.now) search.old }
     requires split { split < length (wave_of ground.now).splits }
     requires least { IsLeast (wave_of ground.now) (state_at ground.now) split least }
+    requires low { AreLow (wave_of ground.now) (state_at ground.now) search.old.lows }
     ensures split { search.new.split ≡ split }
     ensures searched { IsSearched ground.now search.new }
+    ensures low { AreLow (wave_of ground.now) (state_at ground.now) search.new.lows }
 {
     begin(ground, search, split, least);
     start(ground, search);
@@ -361,6 +386,7 @@ fn begin(ground: &Ground<'_>, search: &mut Search, split: u32, least: u64)
     requires blank { IsBlank (wave_of ground.now).tree (length ground.now.nodes.now) search.old }
     requires split { split < length (wave_of ground.now).splits }
     requires least { least ≤ reward (wave_of ground.now) }
+    requires low { AreLow (wave_of ground.now) (state_at ground.now) search.old.lows }
     ensures split { search.new.split ≡ split }
     ensures least { search.new.least ≡ least }
     ensures looked { search.new.looked ≡ 0 }
@@ -525,6 +551,7 @@ fn settle_goal(ground: &Ground<'_>, search: &mut Search)
     requires few { search.old.looked + 1 < 2 ^ 64 }
     ensures split { search.new.split ≡ search.old.split }
     ensures searched { IsSearched ground.now search.new }
+    ensures low { AreLow (wave_of ground.now) (state_at ground.now) search.new.lows }
 {
     let _ = ground;
     if let Goal::Slot(node) = search.goal {

@@ -5,7 +5,7 @@ use Rattle.std.proofs.lemmas.Bool.{cases_lt, false≢true}
 use Rattle.std.proofs.lemmas.List.{get_or-replicate, get_or_past, length-replicate}
 use Rattle.std.proofs.lemmas.List.Elements.{All-head, All-tail}
 use Rattle.std.proofs.lemmas.List.Elements.{Contains-append_right}
-use Rattle.node_ids.specs.Sets.{HasPair, no_pairs, with_pair, with_worker}
+use Rattle.node_ids.specs.Sets.{HasPair, no_pairs, with_pair, row_with}
 use Rattle.node_ids.proofs.Rows.{pairs-with_pair}
 use Rattle.node_ids.proofs.Updating.{length-updated}
 use Rattle.wave_arrays.specs.declared.array_rows.WidePairRow.{WidePairRow}
@@ -31,7 +31,7 @@ has_all workers set [] s w known = grind arith
 has_all workers set (pair ∷ rest) s w known =
     let first = All-head (IsPairKnown (length set) workers) pair rest known in
     let one = pairs-with_pair set pair.split pair.worker s w first.split in
-    let size = length-updated (with_worker pair.worker) set pair.split in
+    let size = length-updated (row_with pair.worker) set pair.split in
     let all = has_all workers (with_pair set pair.split pair.worker) rest s w
     (λ i d lt. rw size (All-tail (IsPairKnown (length set) workers) pair rest known i d lt)) in (
       λ new. elim (all.0 new) [

@@ -13,7 +13,7 @@ use Rattle.wave_arrays.specs.declared.array_rows.WaveRows.{WaveRows}
 use Rattle.wave_arrays.specs.Rows.{AreFit, IsSplitFit, most_splits, split_of, tree_in, wave_in, worker_of}
 
 few_holders : (holders : List ℕ) (row : SplitRow) → IsSplitFit (length holders) row
-    → length (split_of holders row).holders ≤ 8
+    → length (split_of holders row).holders ≤ 16
 few_holders holders row fit = grind (arith, length-take)
 
 few_splits : (rows : BarredRows) → most_splits rows ≤ 131072
@@ -32,7 +32,7 @@ within_limits rows fit =
       slots = All-map (λ (line : WorkerLine). line.free ≤ 255) worker_of rows.workers.now fit.workers.slots;
       bytes = All-map (λ (split : Split). split.bytes ≤ 8589934592) lines rows.splits.now
           (λ i d lt. (fit.splits.each i d lt).bytes);
-      holders = All-map (λ (split : Split). length split.holders ≤ 8) lines rows.splits.now
+      holders = All-map (λ (split : Split). length split.holders ≤ 16) lines rows.splits.now
           (λ i d lt. few_holders rows.holders.now _ (fit.splits.each i d lt));
       known = All-map
           (λ (split : Split). All (λ h. h < length (map worker_of rows.workers.now)) split.holders) lines

@@ -20,7 +20,7 @@ use std::alloc::{AllocError, Global};
 use std::marker::Model;
 use thiserror::Error;
 
-// A split with its holders kept inline.
+// A split with its holders. Where they are no more than eight, they are kept inline.
 #[derive(Drop)]
 struct SplitEntry {
     bytes: u64,
@@ -381,7 +381,7 @@ fn closer(nearest: Option<u8>, steps: u8) -> u8
     }
 }
 
-pub(crate) fn any_live(workers: &[WorkerLine], holders: &[WorkerNo]) -> bool
+fn any_live(workers: &[WorkerLine], holders: &[WorkerNo]) -> bool
     requires { All (λ h. h < length workers.now) holders.now }
     ensures { IsTrue result ↔ (0 < length (live_among workers.now holders.now)) }
 {

@@ -1,2 +1,5 @@
+pub mod Bars
+pub mod BarsInside
+pub mod Deaths
 pub mod Workers
 pub mod View

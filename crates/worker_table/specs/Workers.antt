@@ -1,23 +1,30 @@
 -- The workers of a job: who lives, whose slots are taken, who is silent, and what is barred.
-use Rattle.std.specs.Prelude.{ℕ, ◌+◌, ◌-◌, ◌≤◌, ◌&&◌, ◌==◌, Bool, true, false, nat_lt, min, if◌then◌else◌}
-use Rattle.std.specs.Prelude.{List, All, length, map, slice_index, slice_index_or}
-use Rattle.std.specs.List.{enumerate_from}
-use Rattle.node_ids.specs.Sets.{has_mark, no_marks, with_mark}
+use Rattle.std.specs.Prelude.{ℕ, ◌+◌, ◌-◌, ◌≤◌, ◌&&◌, ◌==◌, Bool, true, false, nat_lt, min}
+use Rattle.std.specs.Prelude.{if◌then◌else◌}
+use Rattle.std.specs.Prelude.{List, All, filter, length, map, slice_index, slice_index_or}
+use Rattle.std.specs.List.{enumerate_from, range_with_len}
+use Rattle.node_ids.specs.Sets.{has_pair}
 use Rattle.node_ids.specs.Updates.{updated}
+use Rattle.worker_table.specs.Bars.{Bars, bars_with, no_bars}
+use Rattle.worker_table.specs.declared.TheConstants.{MAX_WORKERS}
 use Rattle.worker_table.specs.declared.Worker.{Worker}
 
 pub record Workers : Type 0 where
   pub limit : ℕ  -- the silence at which a worker is dead
   pub each : List Worker
-  pub barred : List ℕ  -- the table of the barred pairs of a split and a worker
+  pub barred : Bars
 
 -- a live worker that nothing was heard of, with all its slots free
 abbrev pub fresh : ℕ → Worker
 fresh slots = record { live = true; slots = slots; taken = 0; beat = 0; silence = 0 }
 
--- all workers live, nothing barred
-abbrev pub opening_workers : List ℕ → ℕ → Workers
-opening_workers slots limit = record { limit = limit; each = map fresh slots; barred = no_marks 1024 }
+-- all workers live, and none barred for any of so many splits, with room for so many bars
+abbrev pub opening_workers : List ℕ → ℕ → ℕ → ℕ → Workers
+opening_workers slots splits limit room = record {
+  limit = limit;
+  each = map fresh slots;
+  barred = no_bars splits room;
+}
 
 -- the worker w; one past the last is dead and has no slots
 abbrev pub worker_at : Workers → ℕ → Worker
@@ -36,7 +43,7 @@ abbrev pub has_free_slot : Worker → Bool
 has_free_slot worker = worker.live && nat_lt worker.taken worker.slots
 
 abbrev pub is_barred : Workers → ℕ → ℕ → Bool
-is_barred t split w = has_mark t.barred split w
+is_barred t split w = has_pair t.barred.rows split w
 
 -- what each worker of a table keeps
 pub record IsWithin (limit : ℕ) (worker : Worker) : Type 0 where
@@ -46,7 +53,7 @@ pub record IsWithin (limit : ℕ) (worker : Worker) : Type 0 where
 
 -- what every table keeps
 pub record IsTable (t : Workers) : Type 0 where
-  pub few : length t.each ≤ 256
+  pub few : length t.each ≤ MAX_WORKERS
   pub limit : 1 ≤ t.limit
   pub within : All (IsWithin t.limit) t.each
 
@@ -69,7 +76,7 @@ abbrev pub with_return : Workers → ℕ → Workers
 with_return t w = with_worker (λ worker. record worker { live = true; silence = 0 }) t w
 
 abbrev pub with_bar : Workers → ℕ → ℕ → Workers
-with_bar t split w = record t { barred = with_mark t.barred split w }
+with_bar t split w = record t { barred = bars_with t.barred split w }
 
 -- a worker after a sweep that read this count of its beats; a dead one is passed over
 abbrev pub heard : ℕ → Worker → ℕ → Worker
@@ -79,6 +86,10 @@ heard limit worker count =
     then record worker { beat = count; silence = 0 }
     else record worker { silence = min limit (worker.silence + 1) })
     else worker
+
+-- the worker w has heard this count of its beats
+abbrev pub with_beats : Workers → ℕ → ℕ → Workers
+with_beats t w count = with_worker (λ worker. heard t.limit worker count) t w
 
 -- these workers, numbered from n on, when each has heard the count at its number
 abbrev pub heard_from : ℕ → ℕ → List Worker → List ℕ → List Worker
@@ -92,3 +103,7 @@ swept t counts = record t { each = heard_from 0 t.limit t.each counts }
 -- the worker w lives and has been silent too long: it is in the answer of a sweep
 abbrev pub is_silent : Workers → ℕ → Bool
 is_silent t w = is_live t w && (worker_at t w).silence == t.limit
+
+-- all who live and have been silent too long, by number
+abbrev pub silent_in : Workers → List ℕ
+silent_in t = filter (is_silent t) (range_with_len 0 (length t.each))

@@ -2,23 +2,34 @@
 //! many sweeps, and which pairs of a split and a worker are barred.
 //!
 //! Upward it promises that each call makes of the table just what `specs/Workers.antt` says: one worker
-//! changes, or one bar is added, or every live worker hears its count in a sweep, which tells who has
-//! been silent too long and marks nobody dead. Only `new` takes memory. It stands on the sets of `node_ids`.
+//! changes, or one bar is added, or every live worker hears its count in a sweep, which lists who has
+//! been silent too long and marks nobody dead. Only `new`, `DeadList::with_room` and `BarSet::rows` take
+//! memory: a bar has its room from the beginning. It stands on the sets of `node_ids`.
 #![tactic(auto)]
 
-ghost use Rattle.std.specs.Prelude.{◌≡◌, ℕ, ◌<◌, ◌≤◌, [], length, All, IfOk, IfSome, is_some, map, ◌&&◌};
+ghost use Rattle.std.specs.Prelude.{◌≡◌, ◌^◌, ◌<◌, ◌≤◌, length, All, IfOk, IfSome, is_some, map, ◌&&◌};
 ghost use Rattle.std.specs.Prelude.{◌==◌};
 ghost use Rattle.std.specs.List.{list_any, position_or_len};
-ghost use Rattle.node_ids.specs.Sets.{has_number};
 ghost use Rattle.worker_table.specs.Workers.{IsTable, IsWithin, free_slots, fresh, has_free_slot, heard};
 ghost use Rattle.worker_table.specs.Workers.{heard_from, is_barred, is_live, is_silent, opening_workers};
+ghost use Rattle.worker_table.specs.Workers.{silent_in, with_beats};
 ghost use Rattle.worker_table.specs.Workers.{swept, taken_slots, with_bar, with_death, with_return};
 ghost use Rattle.worker_table.specs.Workers.{with_slot_given, with_slot_taken, worker_at, Workers};
+ghost use Rattle.worker_table.specs.Bars.{no_bars};
 ghost use Rattle.worker_table.specs.View.{table_of};
+ghost use Rattle.worker_table.specs.declared.TheConstants.{MAX_WORKERS};
 
-use node_ids::{PairTable, SplitNo, WorkerNo, WorkerSet};
+pub mod bar_set;
+pub mod dead_list;
+
+pub use bar_set::BarSet;
+pub use dead_list::{Dead, DeadList};
+use node_ids::{SplitNo, WorkerNo};
 use std::alloc::{AllocError, Global};
 use std::marker::Model;
+
+/// How many workers a table holds at most.
+pub const MAX_WORKERS: usize = 32_768;
 
 /// A worker as the table keeps it. `silence` is the number of sweeps, one after the other, in which its
 /// beats had not risen above `beat`.
@@ -36,7 +47,7 @@ pub struct Worker {
 pub struct WorkerTable {
     limit: u32,
     workers: Vec<Worker>,
-    bars: PairTable,
+    bars: BarSet,
 }
 
 impl Model for WorkerTable {
@@ -44,23 +55,29 @@ impl Model for WorkerTable {
 
     ghost view = { table_of };
 
-    // (the pairs have room for 1,024 splits)
-    ghost invariant = { λ t. IsTable (table_of t) × (length t.bars ≡ 4096) };
+    ghost invariant = { λ t. IsTable (table_of t) };
 }
 
 impl WorkerTable {
-    /// A table of live workers with these numbers of slots. `silence` is the number of sweeps without a
-    /// new beat at which a worker is silent too long. The table of bars, 32 KiB, is for 1,024 splits.
-    pub fn new(alloc: Global, slots: &[u8], silence: u32) -> Result<WorkerTable, AllocError>
-        requires workers { length slots.now ≤ 256 }
+    /// A table of live workers with these numbers of slots, for so many splits, with room for so many bars.
+    /// `silence` is the number of sweeps without a new beat at which a worker is silent too long.
+    pub fn new(
+        alloc: Global,
+        slots: &[u8],
+        splits: usize,
+        silence: u32,
+        bars: usize,
+    ) -> Result<WorkerTable, AllocError>
+        requires workers { length slots.now ≤ MAX_WORKERS }
         requires slots { All (λ n. n ≤ 255) slots.now }
+        requires splits { splits < 2 ^ 32 }
         requires silence { 1 ≤ silence }
-        ensures { IfOk result (λ table. table ≡ opening_workers slots.now silence) }
+        ensures { IfOk result (λ table. table ≡ opening_workers slots.now splits silence bars) }
     {
         Ok(WorkerTable {
             limit: silence,
             workers: fresh_workers(alloc, slots, silence)?,
-            bars: PairTable::new(alloc, 1024)?,
+            bars: BarSet::new(alloc, splits, bars)?,
         })
     }
 
@@ -103,30 +120,29 @@ impl WorkerTable {
     pub fn first_free(&self) -> Option<WorkerNo>
         ensures found { is_some result ≡ list_any has_free_slot self.now.each }
         ensures lowest { IfSome result (λ worker. worker ≡ position_or_len has_free_slot self.now.each) }
+        ensures table { IsTable self.now }
     {
         first_free(&self.workers)
     }
 
     /// Whether the pair is barred.
     pub fn barred(&self, split: SplitNo, worker: WorkerNo) -> bool
-        requires split { split < 1024 }
-        requires worker { worker < 256 }
         ensures { result ≡ is_barred self.now split worker }
     {
         self.bars.has(split, worker)
     }
 
     /// All barred pairs.
-    pub fn bars(&self) -> &PairTable
+    pub fn bars(&self) -> &BarSet
         ensures { result.now ≡ self.now.barred }
     {
         &self.bars
     }
 
-    /// Bars the pair for good.
+    /// Bars the pair for good, and uses the room of one bar.
     pub fn bar(&mut self, split: SplitNo, worker: WorkerNo)
-        requires split { split < 1024 }
-        requires worker { worker < 256 }
+        requires split { split < length self.old.barred.rows }
+        requires room { 0 < self.old.barred.room }
         ensures { self.new ≡ with_bar self.old split worker }
     {
         self.bars.put(split, worker);
@@ -172,19 +188,39 @@ impl WorkerTable {
         found.taken -= 1;
     }
 
-    /// Lets each live worker hear the count of its beats, and tells who has been silent too long. Nobody
-    /// is marked dead.
-    pub fn sweep(&mut self, counts: &[u64; 256]) -> WorkerSet
+    /// Lets one worker hear the count of its beats, as a sweep lets each of them.
+    pub fn hear(&mut self, worker: WorkerNo, count: u64)
+        requires { worker < length self.old.each }
+        ensures { self.new ≡ with_beats self.old worker count }
+    {
+        let place = worker.index();
+        self.workers[place] = hear(self.limit, self.workers[place], count);
+    }
+
+    /// Whether the worker lives and has been silent too long.
+    pub fn is_silent(&self, worker: WorkerNo) -> bool
+        requires { worker < length self.now.each }
+        ensures { result ≡ is_silent self.now worker }
+    {
+        has_been_silent(self.limit, &self.workers[worker.index()])
+    }
+
+    /// Lets each live worker hear the count of its beats, and lists who has been silent too long. Nobody is
+    /// marked dead, and no memory is taken.
+    pub fn sweep(&mut self, counts: &[u64], dead: &mut DeadList)
+        requires counts { length counts.now ≡ length self.old.each }
+        requires room { length self.old.each ≤ dead.old.room }
         ensures heard { self.new ≡ swept self.old counts.now }
-        ensures silent { (w : ℕ) → has_number result w ≡ is_silent self.new w }
+        ensures dead { dead.new.items ≡ silent_in self.new }
+        ensures room { dead.new.room ≡ dead.old.room }
     {
         hear_each(self.limit, &mut self.workers, counts);
-        silent_workers(self.limit, &self.workers)
+        list_silent(self.limit, &self.workers, dead);
     }
 }
 
 fn first_free(workers: &[Worker]) -> Option<WorkerNo>
-    requires { length workers.now ≤ 256 }
+    requires { length workers.now ≤ MAX_WORKERS }
     ensures found { is_some result ≡ list_any has_free_slot workers.now }
     ensures lowest { IfSome result (λ worker. worker ≡ position_or_len has_free_slot workers.now) }
 {
@@ -221,8 +257,8 @@ fn fresh_workers(alloc: Global, slots: &[u8], limit: u32) -> Result<Vec<Worker>,
 }
 
 // Each worker hears the count at its number.
-fn hear_each(limit: u32, workers: &mut Vec<Worker>, counts: &[u64; 256])
-    requires { length workers.old.items ≤ 256 }
+fn hear_each(limit: u32, workers: &mut Vec<Worker>, counts: &[u64])
+    requires { length counts.now ≡ length workers.old.items }
     ensures { workers.new.items ≡ heard_from 0 limit workers.old.items counts.now }
 {
     for i in 0..workers.len() {
@@ -252,17 +288,18 @@ fn has_been_silent(limit: u32, worker: &Worker) -> bool
     worker.live && worker.silence == limit
 }
 
-// Those who have been silent for as many sweeps as the limit says.
-fn silent_workers(limit: u32, workers: &[Worker]) -> WorkerSet
-    requires { length workers.now ≤ 256 }
-    ensures { (w : ℕ) → has_number result w
-        ≡ is_silent (record { limit = limit; each = workers.now; barred = [] }) w }
+// Lists the workers that have been silent for as many sweeps as the limit says.
+fn list_silent(limit: u32, workers: &[Worker], dead: &mut DeadList)
+    requires few { length workers.now ≤ MAX_WORKERS }
+    requires room { length workers.now ≤ dead.old.room }
+    ensures dead { dead.new.items
+        ≡ silent_in (record { limit = limit; each = workers.now; barred = no_bars 0 0 }) }
+    ensures room { dead.new.room ≡ dead.old.room }
 {
-    let mut silent = WorkerSet::new();
+    dead.clear();
     for (i, worker) in workers.iter().enumerate() {
         if has_been_silent(limit, worker) {
-            silent.put(WorkerNo::new(i as u16));
+            dead.push(WorkerNo::new(i as u16));
         }
     }
-    silent
 }

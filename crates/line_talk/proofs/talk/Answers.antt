@@ -23,9 +23,9 @@ returns-in_err-read_line-clause-talked g c =
 
 pub returns-in_err-answer_line-in-Whole-clause-talked : goal.returns-in_err-answer_line-in-Whole-clause-talked
 returns-in_err-answer_line-in-Whole-clause-talked g c =
-    let whole = whole_of 65536 c.clear.new.self.items c.read_line.new.line.items c.in_ok-read_line.ensures.bytes
+    let whole = whole_of 524288 c.clear.new.self.items c.read_line.new.line.items c.in_ok-read_line.ensures.bytes
     (g.R.Read.remaining c.loop.reader) c.in_ok-read_line.field-0 c.in-Whole.is c.in_ok-read_line.ensures.finds in
-    let heard_is = c.as_slice.ensures.value ∙ whole.2 ∙ ap (λ l. kept 65536 l whole.0) c.clear.ensures.items in
+    let heard_is = c.as_slice.ensures.value ∙ whole.2 ∙ ap (λ l. kept 524288 l whole.0) c.clear.ensures.items in
     unanswered g.T.Talker.Replies _ _ _ _ _ _ _ _ c.answer_line.new.talker _ c.loop.invariant.settled
     c.in_ok-read_line.ensures.consumed whole.0 _ whole.1 heard_is c.in_err-answer_line-in-Whole.field-0.0
     c.from_residual-in_err-answer_line-in-Whole.result c.from_residual-in_err-answer_line-in-Whole.ensures.1
@@ -33,25 +33,25 @@ returns-in_err-answer_line-in-Whole-clause-talked g c =
 
 pub returns-in-Last-clause-talked : goal.returns-in-Last-clause-talked
 returns-in-Last-clause-talked g c =
-    let whole = whole_of 65536 c.clear.new.self.items c.read_line.new.line.items c.in_ok-read_line.ensures.bytes
+    let whole = whole_of 524288 c.clear.new.self.items c.read_line.new.line.items c.in_ok-read_line.ensures.bytes
     (g.R.Read.remaining c.loop.reader) c.in_ok-read_line.field-0 c.in-Whole.is c.in_ok-read_line.ensures.finds in
-    let heard_is = c.as_slice.ensures.value ∙ whole.2 ∙ ap (λ l. kept 65536 l whole.0) c.clear.ensures.items in
+    let heard_is = c.as_slice.ensures.value ∙ whole.2 ∙ ap (λ l. kept 524288 l whole.0) c.clear.ensures.items in
     ended_by g.T.Talker.Replies _ _ _ _ _ _ _ _ c.answer_line.new.talker _ c.loop.invariant.settled
     c.in_ok-read_line.ensures.consumed whole.0 _ whole.1 heard_is c.in_ok-answer_line-in-Whole.field-0 c.in-Last.is
     c.in_ok-answer_line-in-Whole.ensures.turned
 
 pub returns-in-Over-clause-talked : goal.returns-in-Over-clause-talked
 returns-in-Over-clause-talked g c =
-    let finds = over_of 65536 c.clear.new.self.items c.read_line.new.line.items c.in_ok-read_line.ensures.bytes
+    let finds = over_of 524288 c.clear.new.self.items c.read_line.new.line.items c.in_ok-read_line.ensures.bytes
     (g.R.Read.remaining c.loop.reader) c.in_ok-read_line.field-0 c.in-Over.is c.in_ok-read_line.ensures.finds in
     over (AtTurn g.T.Talker.Replies More) _ _ _ _ _ _ _ _ c.loop.invariant.settled c.in_ok-read_line.ensures.consumed
     finds.0 finds.2
 
 pub loop-preserved : goal.loop-preserved
 loop-preserved g c =
-    let whole = whole_of 65536 c.clear.new.self.items c.read_line.new.line.items c.in_ok-read_line.ensures.bytes
+    let whole = whole_of 524288 c.clear.new.self.items c.read_line.new.line.items c.in_ok-read_line.ensures.bytes
     (g.R.Read.remaining c.loop.reader) c.in_ok-read_line.field-0 c.in-Whole.is c.in_ok-read_line.ensures.finds in
-    let heard_is = c.as_slice.ensures.value ∙ whole.2 ∙ ap (λ l. kept 65536 l whole.0) c.clear.ensures.items in
+    let heard_is = c.as_slice.ensures.value ∙ whole.2 ∙ ap (λ l. kept 524288 l whole.0) c.clear.ensures.items in
     record {
       ready = c.in_ok-answer_line-in-Whole.ensures.ready;
       settled = went_on g.T.Talker.Replies _ _ _ _ _ _ _ _ c.answer_line.new.talker _ c.loop.invariant.settled

@@ -1,26 +1,29 @@
 //! The calls of a master but for its waves: each is an event of the history, or is ignored.
-ghost use Rattle.std.specs.Prelude.{◌≡◌, ◌<◌, length};
+ghost use Rattle.std.specs.Prelude.{◌≡◌, ◌<◌, ◌≤◌, length, true};
 ghost use Rattle.master_state.specs.Refusals.{Call, IsKnown, IsPair, is_not_backable, refusal};
 ghost use Rattle.master_state.specs.Jobs.{Answers, AnswersReduce, AnswersSweep, GivesBack, TellsNext};
 ghost use Rattle.master_core.specs.Attempts.{IsFound, part_end, split_end};
+ghost use Rattle.master_core.specs.Backups.{IsBackupWorker, IsLowestBelow, is_spare, runs_once};
+ghost use Rattle.master_tables.specs.Entries.{shown_as};
 
 use crate::attempts::{End, Found, free_slot};
 use crate::inputs::{is_wrong_map, is_wrong_part};
 use crate::master::Master;
 use crate::reducing::{NextPart, runs_of};
-use master_state::{Answer, Attempt, Event, Reply, Swept, Why, Work};
+use master_state::{Answer, Attempt, Event, Reply, Why, Work};
 use master_tables::backups::{has_free_slot, is_any_live, run_attempt, takes_backup};
 use master_tables::completions::{finish_part, finish_split, give_slots};
 use master_tables::deaths::{bury, bury_all};
-use master_tables::entries::is_any_pending;
+use master_tables::entries::{SplitEntry, is_any_pending};
 use master_tables::holders::{add_holder, drop_holder};
-use master_tables::log::{record_counts, record_event, record_result, record_start};
+use master_tables::log::{record_counts, record_event, record_join, record_result, record_start};
 use master_tables::parts::start_part;
 use master_tables::running::{RunningPart, RunningSplit, end_attempt, end_part_attempt, runs};
-use node_ids::{AttemptNo, SplitNo, SplitSet, WorkerNo, WorkerSet};
+use node_ids::{AttemptNo, SplitNo, SplitRow, SplitSet, WorkerNo};
 use shuffle_reduce::PartResult;
 use std::alloc::Global;
 use word_map::MapResult;
+use worker_table::DeadList;
 
 impl Master {
     /// Starts the lowest pending part on the lowest live worker with a free slot, and answers with all that
@@ -70,7 +73,8 @@ impl Master {
             return Answer::Ignored(why, ());
         }
         self.engine.turn_far();
-        add_holder(&mut self.holders, split, worker);
+        let limit = self.cluster.holder_limit();
+        add_holder(&mut self.holders, limit, split, worker);
         Answer::Accepted(
             record_event(&mut self.history, Event::Add(split, worker)),
             (),
@@ -86,8 +90,8 @@ impl Master {
             Some(Why::DeadWorker)
         } else if self.holders.holds(split, worker) {
             Some(Why::AlreadyHolds)
-        } else if self.holders.is_full(split) {
-            Some(Why::EightHolders)
+        } else if self.holders.is_full(self.cluster.holder_limit(), split) {
+            Some(Why::ManyHolders)
         } else if self.has_no_place() {
             Some(Why::HistoryFull)
         } else {
@@ -126,20 +130,18 @@ impl Master {
     }
 
     /// Makes a dead worker live again, as a holder of each split of the set.
-    pub fn join(&mut self, worker: WorkerNo, set: &SplitSet) -> Answer
-        requires { IsKnown self.old.setup (Call.Join worker set.now) }
-        ensures { Answers self.old (Call.Join worker set.now) result self.new }
+    pub fn join(&mut self, worker: WorkerNo, set: SplitSet) -> Answer
+        requires { IsKnown self.old.setup (Call.Join worker set) }
+        ensures { Answers self.old (Call.Join worker set) result self.new }
     {
-        if let Some(why) = self.why_not_join(worker, set) {
+        if let Some(why) = self.why_not_join(worker, &set) {
             return Answer::Ignored(why, ());
         }
         self.engine.turn_far();
         self.workers.join(worker);
-        self.holders.add_to_all(worker, set);
-        Answer::Accepted(
-            record_event(&mut self.history, Event::Join(worker, *set)),
-            (),
-        )
+        let limit = self.cluster.holder_limit();
+        self.holders.add_to_all(limit, worker, &SplitRow::of(&set));
+        Answer::Accepted(record_join(&mut self.history, worker, set), ())
     }
 
     fn why_not_join(&self, worker: WorkerNo, set: &SplitSet) -> Option<Why>
@@ -148,8 +150,8 @@ impl Master {
     {
         if self.workers.live(worker) {
             Some(Why::LiveWorker)
-        } else if self.holders.is_any_full(set) {
-            Some(Why::EightHolders)
+        } else if self.holders.is_any_full(self.cluster.holder_limit(), set) {
+            Some(Why::ManyHolders)
         } else if self.has_no_place() {
             Some(Why::HistoryFull)
         } else {
@@ -229,6 +231,7 @@ impl Master {
             return Answer::Ignored(Why::HistoryFull, ());
         }
         end_attempt(&mut self.splits, found.split, attempt);
+        self.touched.touch(found.split);
         free_slot(&mut self.workers, &mut self.engine, found, end);
         Answer::Accepted(record_event(&mut self.history, end.of_split(attempt)), ())
     }
@@ -279,6 +282,7 @@ impl Master {
         };
         give_slots(&mut self.workers, &self.splits[found.split.index()]);
         finish_split(&mut self.splits, found.split, winner, made);
+        self.touched.touch(found.split);
         Answer::Accepted(record_event(&mut self.history, Event::MapDone(attempt)), ())
     }
 
@@ -319,31 +323,28 @@ impl Master {
     }
 
     /// Lets each live worker hear the count of its beats, and marks those dead who have been silent too long.
-    /// The counts past the last worker say nothing, and are not kept.
-    pub fn sweep(&mut self, counts: &[u64; 256]) -> Swept
-        ensures { AnswersSweep self.old counts.now result.answer result.dead self.new }
+    /// They are listed, where the sweep is accepted, and nobody is, where it is ignored.
+    pub fn sweep(&mut self, counts: &[u64], dead: &mut DeadList) -> Answer
+        requires known { IsKnown self.old.setup (Call.Sweep counts.now) }
+        requires room { length self.old.setup.cluster.slots ≤ dead.old.room }
+        ensures answer { AnswersSweep self.old counts.now result dead.new.items self.new }
+        ensures room { dead.new.room ≡ dead.old.room }
     {
         if self.has_no_sweep() {
-            return Swept {
-                answer: Answer::Ignored(Why::HistoryFull, ()),
-                dead: WorkerSet::new(),
-            };
+            dead.clear();
+            return Answer::Ignored(Why::HistoryFull, ());
         }
-        let dead = self.workers.sweep(counts);
-        self.engine.turn_far_by(&dead);
+        self.workers.sweep(counts, dead);
+        self.engine.turn_far_by(dead);
         bury_all(
             &mut self.workers,
             &mut self.holders,
             &mut self.splits,
             &mut self.parts,
-            &dead,
-        );
-        let count = self.sweeps.workers();
-        let place = record_counts(&mut self.sweeps, &counts[..count]);
-        Swept {
-            answer: Answer::Accepted(record_event(&mut self.history, Event::Sweep(place)), ()),
             dead,
-        }
+        );
+        let place = record_counts(&mut self.sweeps, counts);
+        Answer::Accepted(record_event(&mut self.history, Event::Sweep(place)), ())
     }
 
     /// Starts a second attempt of a split that runs one, on another worker.
@@ -357,9 +358,50 @@ impl Master {
         }
         let number = record_start(&mut self.starts, Work::Split(split), worker);
         run_attempt(&mut self.splits, split, Attempt { number, worker });
+        self.touched.touch(split);
         self.workers.take_slot(worker);
         let place = record_event(&mut self.history, Event::Backup(number, split, worker));
         Answer::Accepted(place, number)
+    }
+
+    /// The lowest worker on which a second attempt of a split may start, if there is one.
+    pub fn backup_worker(&self, split: SplitNo) -> Option<WorkerNo>
+        requires { split < length self.now.setup.cluster.splits }
+        ensures { IsBackupWorker self.now split result }
+    {
+        let worker = self.spare_worker(split)?;
+        if self.why_not_backup(split, worker).is_some() {
+            return None;
+        }
+        Some(worker)
+    }
+
+    // The lowest worker that is spare for a split. Whether another split is pending is not asked of each one.
+    fn spare_worker(&self, split: SplitNo) -> Option<WorkerNo>
+        requires { split < length self.now.setup.cluster.splits }
+        ensures { IsLowestBelow (length self.now.setup.cluster.slots)
+            (λ w. is_spare self.now.state split w ≡ true) result }
+    {
+        if !runs_once(&self.splits[split.index()]) {
+            return None;
+        }
+        for number in 0..self.cluster.slots().len() {
+            let worker = WorkerNo::new(number as u16);
+            if self.is_spare(split, worker) {
+                return Some(worker);
+            }
+        }
+        None
+    }
+
+    // Whether a worker has a free slot, is not barred from a split, and another one alone runs that.
+    fn is_spare(&self, split: SplitNo, worker: WorkerNo) -> bool
+        requires { IsPair self.now.setup split worker }
+        ensures { result ≡ is_spare self.now.state split worker }
+    {
+        takes_backup(&self.splits[split.index()], worker)
+            && has_free_slot(&self.workers, worker)
+            && !self.workers.barred(split, worker)
     }
 
     fn why_not_backup(&self, split: SplitNo, worker: WorkerNo) -> Option<Why>
@@ -389,5 +431,17 @@ impl Master {
         is_any_pending(&self.splits)
             || !is_any_live(&self.workers, self.holders.holders(split))
             || !has_free_slot(&self.workers, worker)
+    }
+}
+
+// Whether one attempt alone runs the split.
+fn runs_once(entry: &SplitEntry) -> bool
+    ensures { result ≡ runs_once (shown_as entry.now) }
+{
+    match entry {
+        SplitEntry::Pending => false,
+        SplitEntry::Running(_, None) => true,
+        SplitEntry::Running(_, Some(_)) => false,
+        SplitEntry::Done(_, _) => false,
     }
 }

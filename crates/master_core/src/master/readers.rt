@@ -1,7 +1,7 @@
 //! What is read of a master.
 ghost use Rattle.std.specs.Prelude.{◌≡◌, ◌<◌, ◌≤◌, ◌↔◌, length, IfOk, IsTrue, Some, slice_get};
 ghost use Rattle.shuffle_reduce.specs.Gather.{values_of};
-ghost use Rattle.block_map.specs.Copies.{AreCopies, holdings};
+ghost use Rattle.block_map.specs.Copies.{AreCopies, all_copies, holdings};
 ghost use Rattle.master_state.specs.States.{start_of};
 ghost use Rattle.master_state.specs.Jobs.{AreResults, IsGlance, IsReady};
 
@@ -12,7 +12,7 @@ use compact_lists::{CountList, EventList};
 use master_state::{Glance, Limits, PartState, SplitState, Start};
 use master_tables::counts::{open_parts, open_splits, running_maps, running_parts};
 use master_tables::entries::shown;
-use master_tables::lines::{may_any_start, worker_line_table};
+use master_tables::lines::may_any_start;
 use node_ids::{AttemptNo, PartNo, SplitNo};
 use shuffle_reduce::PartResult;
 use std::alloc::{AllocError, Global};
@@ -38,7 +38,7 @@ impl Master {
     /// Every accepted event, the first one first.
     pub fn history(&self) -> &EventList
         ensures value { result.now.items ≡ self.now.history }
-        ensures most { length result.now.items ≤ 65536 }
+        ensures most { length result.now.items ≤ 1048576 }
     {
         &self.history
     }
@@ -47,7 +47,7 @@ impl Master {
     pub fn events(&self) -> u32
         ensures count { result ≡ length self.now.history }
         ensures state { result ≡ self.now.state.events }
-        ensures most { result ≤ 65536 }
+        ensures most { result ≤ 1048576 }
     {
         self.history.len() as u32
     }
@@ -124,15 +124,7 @@ impl Master {
     fn is_ready(&self) -> bool
         ensures { IsTrue result ↔ IsReady self.now }
     {
-        let workers = self.workers.workers();
-        let lines = worker_line_table(workers);
-        may_any_start(
-            &lines[..workers.len()],
-            self.workers.bars(),
-            self.cluster.splits(),
-            &self.splits,
-            &self.holders,
-        )
+        may_any_start(&self.workers, &self.splits, &self.holders)
     }
 
     /// The copies that bring each split nearer to so many replicas, by rising split.
@@ -142,6 +134,14 @@ impl Master {
     {
         self.holders
             .copy_orders(alloc, &self.workers, self.cluster.tree(), target)
+    }
+
+    /// How many copies that are.
+    pub fn copy_count(&self, target: usize) -> usize
+        ensures { result ≡ length (all_copies (holdings self.now.state.workers
+            self.now.setup.cluster.tree self.now.state.holders target)) }
+    {
+        self.holders.copy_count(&self.workers, target)
     }
 
     /// The text of each split.

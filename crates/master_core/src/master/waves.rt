@@ -10,12 +10,13 @@ ghost use Rattle.flow_network.specs.declared.kinds.NetworkKind.{NetworkKind};
 ghost use Rattle.wave_planner.specs.Planned.{IsMadeOver};
 ghost use Rattle.master_state.specs.Steps.{HasPrices, problem_of};
 ghost use Rattle.master_state.specs.Jobs.{AnswersCommit, IsCommitted, LacksRoomForBest, lacks_room, present};
-ghost use Rattle.master_core.specs.Near.{HasPlaces, IsNear, IsSettled};
+ghost use Rattle.master_core.specs.Near.{HasFlags, HasPlaces, IsFlagged, IsNear, IsSettled};
 ghost use Rattle.master_core.specs.Starts.{HasSizesOf, HasTotals};
 
 use crate::kept::Kept;
 use crate::kept_plan::{fresh, gone_over, kept_up, plan_of};
 use crate::master::Master;
+use crate::touched::Touched;
 use certificate_checker::{Certified, certify};
 use master_state::{CommitError, Event, Wave};
 use master_tables::lines::{all_split_lines, worker_lines};
@@ -40,9 +41,7 @@ impl Master {
         let workers = worker_lines(alloc, self.workers.workers())?;
         let splits = all_split_lines(alloc, self.cluster.splits(), &self.splits, &self.holders)?;
         let tree = self.cluster.tree().copy(alloc)?;
-        let worker_count = self.cluster.slots().len() as u16;
-        let split_count = self.cluster.splits().len();
-        let barred = self.workers.bars().rows(alloc, split_count, worker_count)?;
+        let barred = self.workers.bars().rows(alloc)?;
         Problem::within_limits(alloc, tree, workers, &splits, barred)
     }
 
@@ -110,24 +109,32 @@ impl Master {
         ensures same { self.new ≡ self.old }
     {
         let kept = self.engine.take();
-        let Ok(engine) = self.engine_from(alloc, kept) else {
+        let Ok(engine) = self.engine_from(alloc, kept, &self.touched) else {
             return Err(CommitError::Memory);
         };
         let Ok(planned) = plan_of(alloc, &engine) else {
             return Err(CommitError::Memory);
         };
         self.engine = Kept::Near(engine);
+        self.touched.clear();
         Ok(planned)
     }
 
     // An engine of the present state's problem: the kept engine, or a new engine.
-    fn engine_from(&self, alloc: Global, kept: Kept) -> Result<Engine, AllocError>
-        requires { IsNear kept self.now.setup.cluster self.now.state.holders self.now.state.workers.barred }
+    fn engine_from(
+        &self,
+        alloc: Global,
+        kept: Kept,
+        touched: &Touched,
+    ) -> Result<Engine, AllocError>
+        requires near { IsNear kept self.now.setup.cluster self.now.state.holders
+            self.now.state.workers.barred }
+        requires flagged { IsFlagged kept touched.now self.now.state.splits }
         ensures present { IfOk result (λ engine. engine.wave ≡ problem_of self.now.setup self.now.state) }
         ensures settled { IfOk result IsSettled }
     {
         match kept {
-            Kept::Near(engine) => self.kept_up(alloc, engine),
+            Kept::Near(engine) => self.kept_up(alloc, engine, touched),
             Kept::Far(engine) => gone_over(alloc, engine, self.problem(alloc)?),
             Kept::None => fresh(alloc, self.problem(alloc)?),
         }
@@ -135,14 +142,20 @@ impl Master {
 
     // The engine of a wave with the present holders and barred pairs, of which the workers' lines and the
     // pending splits alone have changed.
-    fn kept_up(&self, alloc: Global, engine: Engine) -> Result<Engine, AllocError>
-        requires { HasPlaces engine.wave self.now.setup.cluster self.now.state.holders
+    fn kept_up(
+        &self,
+        alloc: Global,
+        engine: Engine,
+        touched: &Touched,
+    ) -> Result<Engine, AllocError>
+        requires near { HasPlaces engine.wave self.now.setup.cluster self.now.state.holders
             self.now.state.workers.barred }
+        requires flagged { HasFlags engine.wave touched.now self.now.state.splits }
         ensures present { IfOk result (λ kept. kept.wave ≡ problem_of self.now.setup self.now.state) }
         ensures settled { IfOk result IsSettled }
     {
         engine.problem().limits();
-        kept_up(alloc, engine, self.workers.workers(), &self.splits)
+        kept_up(alloc, engine, self.workers.workers(), touched, &self.splits)
     }
 
     // Starts the splits of a plan that is best in the present state, if there is room for them.
@@ -188,6 +201,7 @@ impl Master {
         let count = certified.count as u32;
         let cost = certified.cost;
         start_each(&mut self.workers, &mut self.splits, &mut self.starts, pairs);
+        self.touched.touch_each(pairs);
         let place = record_event(&mut self.history, Event::Wave { first, count, cost });
         Wave {
             place,

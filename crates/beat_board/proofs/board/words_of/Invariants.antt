@@ -5,5 +5,5 @@ use Rattle.beat_board.proofs.board.words_of.Given as goal
 
 abbrev pub invariant-loop-worker : goal.invariant-loop-worker
 invariant-loop-worker l =
-    (length l.beats ≡ 256)
+    (length l.beats ≡ 1024)
     × ((k : ℕ) → k < l.worker → slice_index l.beats k ≡ slice_index (slots_items l.closed.words) k)

@@ -1,5 +1,5 @@
 use Rattle.std.proofs.Common.{◌≡◌, ◌<◌, List, [], ◌∷◌, ◌++◌, length, get_or, take, drop, refl, sym, ap}
-use Rattle.std.proofs.Common.{subst, ◌∙◌, arith}
+use Rattle.std.proofs.Common.{rules, subst, ◌∙◌, arith}
 use Rattle.std.proofs.lemmas.Option.{get_or_from_slice_get}
 use Rattle.hand_ledger.specs.Hands.{Kept, counts_in, kept}
 use Rattle.hand_ledger.specs.Inside.{calls_of}
@@ -33,7 +33,7 @@ loop-index-preserved c =
         taken_step starts_of es i e lt at,
       );
       marks = λ before m.
-          subst (λ (l : List Kept). Marks c.args.log.now l c.mark.new.found)
+          subst (λ (l : List Kept). Marks c.args.log.now c.args.first l c.mark.new.found)
           (ap (λ (call : Kept). (before ++ calls_of (take i es) cs ss) ++ call ∷ [])
           (λ k. kept e.place e.event
           (take (counts_in e.event) (drop (kept_so.counts k) cs))
@@ -42,6 +42,6 @@ loop-index-preserved c =
           ∙ calls_step before es i e cs ss lt at)
           (c.mark.ensures.marks c.args.log.now (before ++ calls_of (take i es) cs ss)
           (kept e.place e.event (take (counts_in e.event) (drop c.loop-index.counts_done cs))
-          c.part-new_part.result.now) refl c.has-is_right.ensures
+          c.part-new_part.result.now) refl (λ low high. search rules)
           (kept_so.marks before m));
     }

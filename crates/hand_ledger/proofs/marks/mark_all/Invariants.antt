@@ -11,6 +11,6 @@ invariant-loop-index l = record {
   counts : l.counts_done ≡ counts_taken (take l.index l.entries.items);
   few : l.counts_done ≤ l.index;
   starts : l.starts_done ≡ starts_taken (take l.index l.entries.items);
-  marks : (before : List Kept) → Marks l.log before l.fn.found →
-      Marks l.log (before ++ calls_of (take l.index l.entries.items) l.counts.items l.starts) l.found;
+  marks : (before : List Kept) → Marks l.log l.first before l.fn.found →
+      Marks l.log l.first (before ++ calls_of (take l.index l.entries.items) l.counts.items l.starts) l.found;
 }

@@ -11,6 +11,7 @@ loop-command-preserved g c =
     record {
       setup = performed_setup done ∙ c.loop-command.invariant.setup;
       given = c.in_ok-perform_in_report.ensures.given;
+      seen = c.in_ok-perform_in_report.ensures.seen;
       performed = performed_more _ _ _ _ _ c.deref-command-items.result.now c.loop-command.command-index
           c.command-item.result _ _ _ (search rules) c.command-item.is c.loop-command.invariant.performed
           done;

@@ -10,6 +10,6 @@ pub tell-requires-clause-named : goal.tell-requires-clause-named
 tell-requires-clause-named g c =
     let read = c.args.read in
     let ended = subst (λ (job : Job). IfOk c.run_recorded-ended.result (IsRecordOf (setup_of job)))
-    c.in_ok-job.ensures c.run_recorded-ended.ensures.record in
+    c.in_ok-job.ensures.value c.run_recorded-ended.ensures.record in
     texts_told read.script.names (setup_on (cluster_in read.head)) c.run_recorded-ended.result
     (texts_named read.head read.script c.requires.fit c.requires.known) ended

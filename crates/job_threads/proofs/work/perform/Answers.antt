@@ -1,37 +1,12 @@
-use Rattle.std.proofs.Common.{inr}
+use Rattle.std.proofs.Common.{inl, inr, subst}
+use Rattle.hand_ledger.specs.Hands.{HandValue}
+use Rattle.job_threads.specs.Telling.{Does}
 use Rattle.job_threads.proofs.work.perform.Goals as goal
 
-pub returns-in_err-judge-in-Map-clause-performs : goal.returns-in_err-judge-in-Map-clause-performs
-returns-in_err-judge-in-Map-clause-performs g c =
-    rw c.in-Map.is
-    (inr (
-      c.mapped-made.result,
-      c.mapped-made.ensures.text,
-      c.mapped-made.ensures.parts,
-      c.tell_map-answer.ensures.first,
-      (c.tell_map-answer.result, c.tell_map-answer.ensures.tells),
-    ))
+pub returns-in_err-make_room-clause-performs : goal.returns-in_err-make_room-clause-performs
+returns-in_err-make_room-clause-performs g c = inl c.in_err-make_room.ensures.same
 
-pub returns-in_ok-judge-in-Map-clause-performs : goal.returns-in_ok-judge-in-Map-clause-performs
-returns-in_ok-judge-in-Map-clause-performs g c =
-    rw c.in-Map.is
-    (inr (
-      c.mapped-made.result,
-      c.mapped-made.ensures.text,
-      c.mapped-made.ensures.parts,
-      c.tell_map-answer.ensures.first,
-      (c.tell_map-answer.result, c.tell_map-answer.ensures.tells),
-    ))
-
-pub returns-in-Some-beat-clause-performs : goal.returns-in-Some-beat-clause-performs
-returns-in-Some-beat-clause-performs g c =
-    let texts = rw c.deref.ensures.value at c.reduced-made.ensures.texts in
-    rw c.in-Reduce.is
-    (inr (
-      c.reduced-made.result,
-      c.reduced-made.ensures.part,
-      c.reduced-made.ensures.parts,
-      texts,
-      c.tell_reduce-answer.ensures.first,
-      (c.tell_reduce-answer.result, c.tell_reduce-answer.ensures.tells),
-    ))
+pub returns-clause-performs : goal.returns-clause-performs
+returns-clause-performs g c =
+    inr (subst (λ (hand : HandValue). Does g.L.OfJob.setup c.args.order.now hand c.do_order.new.hand)
+    c.in_ok-make_room.ensures.ok c.do_order.ensures.does)

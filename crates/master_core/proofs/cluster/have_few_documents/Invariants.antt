@@ -9,4 +9,4 @@ use Rattle.master_core.proofs.cluster.have_few_documents.Given as goal
 abbrev pub invariant-loop-text : goal.invariant-loop-text
 invariant-loop-text l =
     let documents = λ (text : Arc SplitDocuments Global). length (arc_value text).documents in
-    l.left + sum_by documents (take l.text-index l.texts) ≡ 65536
+    l.left + sum_by documents (take l.text-index l.texts) ≡ 1048576

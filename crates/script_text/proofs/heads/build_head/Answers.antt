@@ -1,4 +1,4 @@
-use Rattle.std.proofs.Common.{arith}
+use Rattle.std.proofs.Common.{arith, refl}
 use Rattle.line_shapes.specs.declared.keyword.Keyword.TheVariants.{Parts, Silence}
 use Rattle.line_rules.specs.Known.{rows_of}
 use Rattle.script_text.proofs.Fits.{fit_head}
@@ -24,7 +24,8 @@ overflow_cast-silence c =
 
 pub returns-clause-fit : goal.returns-clause-fit
 returns-clause-fit c =
-    fit_head c.args.rows.now c.are_tidy.ensures _ (record {
+    fit_head c.args.version c.args.rows.now c.are_tidy.ensures _ (record {
+      version = refl;
       tree = c.in_ok-tree.ensures;
       slots = c.in_ok-slots.ensures;
       splits = c.in_ok-splits.ensures;

@@ -45,6 +45,14 @@ returns-in-End-clause-unread g c =
       consumed = more _ _ _ _ _ c.loop.invariant.lost read;
     }
 
+pub returns-in-End-clause-bound : goal.returns-in-End-clause-bound
+returns-in-End-clause-bound g c =
+    let most = c.longest-most.ensures ∙ ap longest c.deref.ensures.value in
+    let read = c.in_ok-read_piece.ensures.ok in
+    let grows = longest-grows c.loop.text.items read.bytes in
+    let all = ap longest read.grown in
+    omega (arith, most, grows, all, c.read_piece.ensures.bound)
+
 pub loop-preserved : goal.loop-preserved
 loop-preserved g c =
     let most = c.longest-most.ensures ∙ ap longest c.deref.ensures.value in

@@ -1,6 +1,7 @@
 use Rattle.std.proofs.Common.{length, ap, refl, subst, sym, ◌∙◌, arith}
 use Rattle.wave_problem.specs.Wave.{reward}
 use Rattle.tree_planner.specs.Engine.{with_depth}
+use Rattle.tree_planner.specs.Lows.{AreLow}
 use Rattle.tree_planner.specs.Searching.{state_at, wave_of, IsBlank}
 use Rattle.tree_planner.specs.View.{state_of}
 use Rattle.tree_planner.specs.Way.{IsReady}
@@ -37,3 +38,16 @@ find_way-requires-clause-blank c =
 
 pub returns-clause-room : goal.returns-clause-room
 returns-clause-room c = c.find_way.ensures.searched.searching.room ∙ ap (λ xs. length xs) c.ground_of.ensures.nodes
+
+pub find_way-requires-clause-low : goal.find_way-requires-clause-low
+find_way-requires-clause-low c =
+    let lows = c.args.search.now.lows in
+    let g = c.ground_of.result in
+    subst (λ w. AreLow w (state_at g) lows) (sym c.ground_of.ensures.problem)
+    (subst (λ t. AreLow c.args.problem.now (state_of t) lows) (sym c.ground_of.ensures.tables) c.requires.low)
+
+pub returns-clause-low : goal.returns-clause-low
+returns-clause-low c =
+    let lows = c.find_way.new.search.lows in
+    subst (λ t. AreLow c.args.problem.now (state_of t) lows) c.ground_of.ensures.tables
+    (subst (λ w. AreLow w (state_at c.ground_of.result) lows) c.ground_of.ensures.problem c.find_way.ensures.low)

@@ -1,5 +1,9 @@
-use Rattle.std.proofs.Common.{subst}
+use Rattle.std.proofs.Common.{ap, arith, subst, sym}
+use Rattle.tree_flow.specs.Table.{at_node}
+use Rattle.tree_planner.specs.Lows.{AreLow}
+use Rattle.tree_planner.specs.View.{state_of}
 use Rattle.tree_planner.specs.Way.{AreDeeper}
+use Rattle.tree_planner.proofs.Lowered.{deeper_low}
 use Rattle.tree_planner.proofs.engine.search_and_follow.Goals as goal
 
 pub follow-requires-clause-ready : goal.follow-requires-clause-ready
@@ -7,3 +11,15 @@ follow-requires-clause-ready c =
     let depth = c.deepen.new.depth in
     c.find.ensures.ready depth (subst (λ r. AreDeeper r c.args.tables.now.depth c.find.new.search depth)
     c.requires.fixed.worth c.deepen.ensures.deeper)
+
+pub returns-clause-low : goal.returns-clause-low
+returns-clause-low c =
+    let wave = c.args.problem.now in
+    let new = state_of c.follow.new.tables in
+    subst (λ lows. AreLow wave new lows) (sym c.clear.ensures.lows)
+    (deeper_low wave (state_of c.args.tables.now) new c.find.new.search.lows (λ v.
+    (let same = ap (λ t. at_node t v) c.follow.ensures.depth in
+    let deep = c.deepen.ensures.deeper v in
+    let low = c.requires.standing.low v in
+    let worth = c.requires.fixed.worth in
+    omega arith)) c.find.ensures.low)

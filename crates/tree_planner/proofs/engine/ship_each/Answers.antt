@@ -1,15 +1,25 @@
-use Rattle.std.proofs.Common.{ℕ, arith, inl, inr, subst, sym}
+use Rattle.std.proofs.Common.{ℕ, arith, inl, inr, rules, subst, sym}
 use Rattle.std.specs.Prelude.{◌≢◌}
 use Rattle.std.proofs.lemmas.Bool.{cases_eq}
 use Rattle.tree_flow.specs.declared.nodes.Place.TheVariants.{Unshipped}
 use Rattle.tree_flow.specs.State.{place_of}
 use Rattle.tree_planner.specs.View.{state_of}
+use Rattle.tree_planner.proofs.Lowered.{none_low}
 use Rattle.tree_planner.proofs.engine.ship_each.Goals as goal
+
+pub loop-s-init : goal.loop-s-init
+loop-s-init c = record {
+  standing = c.requires.standing;
+  blank = search rules;
+  low = none_low _ _ c.in_ok-search.search.lows c.in_ok-search.ensures.lows;
+  shipped = λ k l. absurd (omega arith);
+}
 
 pub loop-s-preserved : goal.loop-s-preserved
 loop-s-preserved c = record {
   standing = c.ship_once.ensures.standing;
   blank = c.ship_once.ensures.blank;
+  low = c.ship_once.ensures.low;
   shipped = λ k l. elim (cases_eq k c.loop-s.s) [
     | inl e ↦ subst (λ (k : ℕ). place_of (state_of c.ship_once.new.tables) k ≢ Unshipped) (sym e)
         c.ship_once.ensures.shipped

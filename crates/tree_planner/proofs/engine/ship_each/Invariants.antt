@@ -3,6 +3,7 @@ use Rattle.std.specs.Prelude.{◌≢◌}
 use Rattle.tree_flow.specs.declared.nodes.Place.TheVariants.{Unshipped}
 use Rattle.tree_flow.specs.State.{place_of}
 use Rattle.tree_planner.specs.Engine.{IsStanding}
+use Rattle.tree_planner.specs.Lows.{AreLow}
 use Rattle.tree_planner.specs.Searching.{IsBlank}
 use Rattle.tree_planner.specs.View.{state_of}
 use Rattle.tree_planner.proofs.engine.ship_each.Given as goal
@@ -11,5 +12,6 @@ abbrev pub invariant-loop-s : goal.invariant-loop-s
 invariant-loop-s l = record {
   standing : IsStanding l.problem l.tables;
   blank : IsBlank l.problem.tree (length l.fixed.nodes.items) l.search;
+  low : AreLow l.problem (state_of l.tables) l.search.lows;
   shipped : (k : ℕ) → k < l.s → place_of (state_of l.tables) k ≢ Unshipped;
 }

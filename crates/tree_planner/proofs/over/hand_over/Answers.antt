@@ -5,7 +5,7 @@ use Rattle.tree_flow.specs.declared.nodes.End.{End}
 use Rattle.tree_planner.specs.Ends.{HasEnd, IsOf}
 use Rattle.tree_flow.specs.State.{reach_cost}
 use Rattle.tree_planner.specs.Searching.{far_at, state_at, wave_of, IsOutBy, IsOverTo}
-use Rattle.tree_planner.proofs.Improved.{at_kept, improves_trans}
+use Rattle.tree_planner.proofs.Improved.{at_kept, improves_trans, over_kept}
 use Rattle.tree_planner.proofs.Covered.{group_ends, leaving_kept}
 use Rattle.tree_planner.proofs.Grouped.{all_among, first}
 use Rattle.tree_planner.proofs.Looked.{stands_same}
@@ -83,13 +83,45 @@ loop-group-preserved c =
           c.groups-group-items.ensures c.over_group.ensures.over);
     }
 
+pub stays-requires-clause-searching : goal.stays-requires-clause-searching
+stays-requires-clause-searching c =
+    let at = c.requires.at in
+    let far = c.far_of-far.ensures in
+    let cost = c.cost_at-spent.ensures.cost in
+    let worth = c.requires.ground.worth in
+    c.arrive.ensures.kept c.args.ground.now c.requires.searching (λ less. record {
+      from = c.args.end;
+      stands = c.requires.stands;
+      reached = at.reached;
+      settled = at.settled;
+      near = omega arith;
+    })
+
+pub stays-requires-clause-leaving : goal.stays-requires-clause-leaving
+stays-requires-clause-leaving c =
+    let i = c.arrive.ensures.improves in
+    let at = c.requires.at in
+    record {
+      known = c.requires.split;
+      at = at_kept c.args.search.now c.arrive.new.self i c.args.end.node at;
+      far = c.far_of-far.ensures ∙ sym (i.nearer.settled c.args.end.node at.settled);
+      stands = c.requires.stands;
+      spent = c.cost_at-spent.ensures.cost;
+    }
+
+pub returns-clause-improves : goal.returns-clause-improves
+returns-clause-improves c =
+    improves_trans c.args.search.now c.loop-group.search c.learn_low.new.search c.loop-group.invariant.improves
+    c.learn_low.ensures.improves
+
 pub returns-clause-over : goal.returns-clause-over
 returns-clause-over c =
     let g = c.args.ground.now in
     let search = c.loop-group.search in
     let ends = c.ends_of-ends.result in
     let size = ap length c.groups-group-items.ensures in
-    record {
+    over_kept search c.learn_low.new.search c.learn_low.ensures.improves.nearer g c.args.end.node c.args.split
+    c.loop-group.invariant.leaving.at.settled (record {
       over = λ e x stands is is_end.
           (let same = stands_same (state_at g) c.args.split c.args.end e c.requires.stands stands in
           subst (λ e. IsOverTo g search e c.args.split x) same
@@ -102,6 +134,27 @@ returns-clause-over c =
           (let same = stands_same (state_at g) c.args.split c.args.end e c.requires.stands stands in
           subst (λ e. search.bound + reach_cost (wave_of g) (state_at g) c.args.split e
           ≤ far_at search e.node + reward (wave_of g)) same c.loop-group.invariant.out);
+    })
+
+pub returns-then-stays-clause-over : goal.returns-then-stays-clause-over
+returns-then-stays-clause-over c =
+    let g = c.args.ground.now in
+    let search = c.arrive.new.self in
+    let same_far = c.arrive.ensures.improves.nearer.settled c.args.end.node c.requires.at.settled in
+    record {
+      over = λ e x stands is is_end.
+          (let same = stands_same (state_at g) c.args.split c.args.end e c.requires.stands stands in
+          subst (λ e. IsOverTo g search e c.args.split x) same (c.stays.ensures c.if-stays.true x is_end));
+      out = λ e stands is.
+          (let same = stands_same (state_at g) c.args.split c.args.end e c.requires.stands stands in
+          subst (λ e. search.bound + reach_cost (wave_of g) (state_at g) c.args.split e
+          ≤ far_at search e.node + reward (wave_of g)) same
+          (let near = c.arrive.ensures.near in
+          let worth = c.requires.ground.worth in
+          let cost = c.cost_at-spent.ensures.cost in
+          let below = c.requires.ground.kept.cheapest.below_waiting c.args.split c.args.end c.requires.stands in
+          let far = c.far_of-far.ensures in
+          omega arith));
     }
 
 pub returns-then-search-far-clause-over : goal.returns-then-search-far-clause-over

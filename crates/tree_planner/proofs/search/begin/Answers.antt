@@ -9,4 +9,4 @@ returns-clause-searching c =
       racks = c.clear.ensures.size.racks ∙ c.requires.blank.tables.covers.racks;
       centres = c.clear.ensures.size.centres ∙ c.requires.blank.tables.covers.centres;
     })
-    c.clear.ensures.none
+    c.clear.ensures.none c.requires.low

@@ -6,7 +6,7 @@ use Rattle.beat_board.proofs.board.Board.look.Goals as goal
 pub load-requires : goal.load-requires
 load-requires c =
     let r = c.reader.inside in
-    let small : c.index.result < 256 =
+    let small : c.index.result < 1024 =
     omega (
       arith,
       c.index.ensures.value,

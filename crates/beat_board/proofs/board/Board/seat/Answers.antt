@@ -7,7 +7,7 @@ use Rattle.beat_board.proofs.board.Board.seat.Goals as goal
 pub load-requires : goal.load-requires
 load-requires c =
     let m = c.maker.inside in
-    let small : c.index-worker.result < 256 =
+    let small : c.index-worker.result < 1024 =
     omega (
       arith,
       c.index-worker.ensures.value,

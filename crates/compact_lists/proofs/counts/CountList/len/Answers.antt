@@ -1,4 +1,4 @@
-use Rattle.std.proofs.Common.{length, sym, ap, ◌∙◌, arith}
+use Rattle.std.proofs.Common.{length, ap, arith}
 use Rattle.compact_lists.proofs.Counting.{length-over}
 use Rattle.compact_lists.proofs.counts.CountList.len.Goals as goal
 

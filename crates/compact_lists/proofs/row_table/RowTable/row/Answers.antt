@@ -1,4 +1,4 @@
-use Rattle.std.proofs.Common.{◌*◌, ◌+◌, ◌≤◌, ◌^◌, length, arith}
+use Rattle.std.proofs.Common.{arith}
 use Rattle.compact_lists.proofs.Tabling.{cut_get, few_elements, length-cut, row_within}
 use Rattle.compact_lists.proofs.row_table.RowTable.row.Goals as goal
 

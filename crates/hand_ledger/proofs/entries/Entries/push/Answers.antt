@@ -6,12 +6,12 @@ use Rattle.hand_ledger.proofs.entries.Entries.push.Goals as goal
 pub push_reserved-requires : goal.push_reserved-requires
 push_reserved-requires c =
     let sizes = sizes_are _ _ _ _ c.self.view_is c.self.invariant.0 in
-    omega (arith, c.requires, sizes.places, sizes.room_is, c.self.invariant.1, c.self.inside.places.ok.0)
+    omega (arith, c.requires.room, sizes.places, sizes.room_is, c.self.invariant.1, c.self.inside.places.ok.0)
 
-pub push-requires : goal.push-requires
-push-requires c =
+pub push-requires-clause-room : goal.push-requires-clause-room
+push-requires-clause-room c =
     let sizes = sizes_are _ _ _ _ c.self.view_is c.self.invariant.0 in
-    omega (arith, c.requires, sizes.events, sizes.room_is)
+    omega (arith, c.requires.room, sizes.events, sizes.room_is)
 
 pub returns-clause-items : goal.returns-clause-items
 returns-clause-items c =

@@ -9,7 +9,7 @@ pub returns-in-Sweep : goal.returns-in-Sweep
 returns-in-Sweep c =
     let sweeps = c.self.inside.sweeps.now.items in
     let items = c.args.counts.now.items in
-    let event = c.args.event in
+    let event = c.args.event.now in
     let told : option_to_list c.get-found.result ≡ counts_at c.args.self.now event =
     ap option_to_list (c.get-found.ensures ∙ ap (slice_get sweeps) c.saturating_sub.ensures)
     ∙ one_at sweeps (c.in-Sweep.place - 1) ∙ (λ k. counts_at (c.self.view_is k) (sym c.in-Sweep.is k)) in

@@ -9,6 +9,6 @@ loop-split-init g c = record { backup = no_step; idle = refl }
 pub loop-split-preserved : goal.loop-split-preserved
 loop-split-preserved g c = record {
   backup = one_more c.loop-split.invariant.backup
-      (backed_up_more _ _ _ _ _ _ _ _ c.new.ensures c.in_ok-started.ensures.backup);
+      (backed_up_more _ _ _ _ _ _ _ c.new.ensures c.in_ok-started.ensures.backup);
   idle = cc;
 }

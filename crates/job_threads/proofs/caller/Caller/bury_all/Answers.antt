@@ -1,30 +1,20 @@
-use Rattle.std.proofs.Common.{◌≡◌, ◌∙◌, refl, sym}
-use Rattle.job_threads.proofs.Chains.{all_buried_next, all_buried_zero, deaths_after_next, deaths_after_zero}
+use Rattle.std.proofs.Common.{◌≡◌, ◌<◌, ◌∙◌, ap, arith, length, refl, sym}
+use Rattle.job_threads.proofs.Chains.{all_buried_zero, one_buried}
 use Rattle.job_threads.proofs.caller.Caller.bury_all.Goals as goal
 
-pub loop-worker-init : goal.loop-worker-init
-loop-worker-init g c = record {
-  workers = sym (all_buried_zero _ _ _);
-  deaths = sym (deaths_after_zero _ _);
-  splits = refl;
-  same = refl;
-}
+pub loop-i-init : goal.loop-i-init
+loop-i-init g c = record { workers = sym (all_buried_zero _ _ _); splits = refl; same = refl }
 
-pub loop-worker-preserved : goal.loop-worker-preserved
-loop-worker-preserved g c =
-    let dead = c.args.dead.now in
-    let told = c.args.self.now.watch.told in
-    let n = c.loop-worker.worker in
-    let workers = all_buried_next dead told n c.args.self.now.holdings.workers.items in
-    let deaths = deaths_after_next dead n c.args.self.now.deaths in
-    let told_is : c.loop-worker.self.watch.told ≡ told = λ k. (c.loop-worker.invariant.same k).watch.told in
+pub loop-i-preserved : goal.loop-i-preserved
+loop-i-preserved g c =
+    let same = c.loop-i.invariant.same in
+    let told : c.loop-i.self.watch.told ≡ c.args.self.now.watch.told = λ k. (same k).watch.told in
+    let dead : c.loop-i.self.dead ≡ c.args.self.now.dead = λ k. (same k).dead in
+    let inside : c.loop-i.i < length c.args.self.now.dead =
+    omega (arith, c.loop-i-test.true, ap length c.workers-count.ensures) in
     record {
-      workers = cc;
-      deaths = cc;
-      splits = cc;
-      same = c.bury_if.ensures.same
-          ∙ (λ k. record (c.loop-worker.invariant.same k) {
-            holdings = c.bury_if.new.self.holdings;
-            deaths = c.bury_if.new.self.deaths;
-          });
+      workers = one_buried _ _ _ _ _ _ _ _ _ c.loop-i.invariant.workers told (c.workers.ensures ∙ dead) inside
+          c.index-workers-i.is c.bury.ensures.value;
+      splits = c.bury.ensures.splits ∙ c.loop-i.invariant.splits;
+      same = c.bury.ensures.same ∙ (λ k. record (same k) { holdings = c.bury.new.self.holdings });
     }

@@ -6,7 +6,7 @@ returns-in-Ok-clause-starts g c =
     IfOk-weaker c.send_wave.result _ _
     (λ started sends. record {
       shared = c.in-Ok.wave;
-      answered = c.plan_wave.new.hand;
+      answered = c.plan.new.hand;
       kept = c.in-Ok.ensures;
       starts = sends;
     })

@@ -5,7 +5,7 @@ use Rattle.std.proofs.lemmas.Option.{slice_get_read}
 use Rattle.job_threads.specs.declared.holdings.Holding.{Holding}
 use Rattle.job_threads.specs.Holdings.{AreReturning, may_return}
 use Rattle.job_threads.proofs.Returning.{returning_more, returning_same}
-use Rattle.job_threads.proofs.holdings.Holdings.returning.Goals.{then-may_return, else-may_return}
+use Rattle.job_threads.proofs.holdings.Holdings.returning.Goals.{then-may_return+in_ok-put, else-may_return}
 use Rattle.job_threads.proofs.holdings.Holdings.returning.Goals as goal
 
 pub loop-split-preserved : goal.loop-split-preserved
@@ -14,10 +14,9 @@ loop-split-preserved c =
     let told = c.may_return.ensures
     ∙ ap (may_return workers (Some c.in-Some.holding.now)) c.new-split.ensures in
     elim c.if-may_return.branch [
-      | then-may_return w ↦ rw w.set-is
-          (returning_more workers (Some c.in-Some.holding.now) c.loop-split.split c.loop-split.set _
-          c.loop-split.invariant (rw (← c.new-split.ensures) w.put.ensures.members)
-          (sym told ∙ w.if-may_return.true))
+      | then-may_return+in_ok-put w ↦ rw w.set-is
+          (rw (w.in_ok-put.ensures, c.new-split.ensures) (returning_more workers (Some c.in-Some.holding.now)
+          c.loop-split.split c.loop-split.set c.loop-split.invariant (sym told ∙ w.if-may_return.true)))
       | else-may_return w ↦ rw w.set-is
           (returning_same workers (Some c.in-Some.holding.now) c.loop-split.split c.loop-split.set
           c.loop-split.invariant (λ may. false≢true (sym w.if-may_return.false ∙ told ∙ may)))

@@ -1,4 +1,4 @@
-use Rattle.std.proofs.Common.{◌≡◌, List, [], ◌∷◌, ◌++◌, All, Bool, true, false, if◌then◌else◌, sym, subst}
+use Rattle.std.proofs.Common.{◌≡◌, List, All, Bool, true, false, if◌then◌else◌, sym, subst}
 use Rattle.std.proofs.lemmas.List.Elements.{All-push}
 use Rattle.beat_board.specs.Values.{SeatValue}
 use Rattle.job_threads.proofs.threads.Came.take.Goals as goal

@@ -20,7 +20,7 @@ pub invariant_of-result : goal.invariant_of-result
 invariant_of-result c =
     whole_from c.args.tree c.args.slots.now c.in-Ok.slots.items c.args.splits.items c.args.texts.items
     c.args.parts
-    c.args.silence (c.in-Ok.ensures.items_if_clones_equal (λ _ _ e. e))
+    c.args.silence c.args.holder_limit (c.in-Ok.ensures.items_if_clones_equal (λ _ _ e. e))
     (subst (λ (t : Tree). tree.IsWithinLimits t) c.tree.view_is c.tree.invariant)
     c.requires.workers c.requires.texts c.requires.parts c.requires.silence
     (rw (c.deref.ensures.value, c.deref-2.ensures.value)

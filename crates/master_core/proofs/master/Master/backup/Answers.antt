@@ -9,6 +9,7 @@ use Rattle.master_tables.specs.Entries.{entry_with}
 use Rattle.master_core.specs.Inside.{setup_of}
 use Rattle.master_core.proofs.Accepting.{Follows, follows}
 use Rattle.master_core.proofs.Backing.{may_back}
+use Rattle.master_core.proofs.Touching.{flagged_updated}
 use Rattle.master_tables.proofs.Showing.{made_updated, shown-started, start_makes_none}
 use Rattle.master_core.proofs.master.Master.backup.Goals as goal
 
@@ -16,6 +17,7 @@ after : (c : goal.After-record_event-place) →
     Follows (record c.self.inside {
       workers = c.take_slot.new.self;
       splits = c.run_attempt.new.entries;
+      touched = c.touch.new.self;
       starts = c.record_start-number.new.starts;
       history = c.record_event-place.new.history;
     }) c.args.self.now (Backup c.args.split c.args.worker) c.record_event-place.result
@@ -38,7 +40,11 @@ after c =
       c.record_start-number.ensures.number,
     ) refl) refl
     (rw c.run_attempt.ensures (made_updated (setup_of old) (entry_with one) old.splits.items split
-    (start_makes_none one) c.self.invariant.made)) (rw c.take_slot.ensures c.self.invariant.near)
+    (start_makes_none one) c.self.invariant.made)) (
+      rw c.take_slot.ensures c.self.invariant.near.0,
+      rw c.run_attempt.ensures (flagged_updated old.engine old.touched c.touch.new.self (entry_with one) old.splits.items split
+          c.touch.ensures.here c.touch.ensures.before c.self.invariant.near.1),
+    )
 
 pub invariant_of-self : goal.invariant_of-self
 invariant_of-self c = (after c).master

@@ -4,7 +4,10 @@ use Rattle.wave_problem.specs.Assignment.{pairs_of, total}
 use Rattle.price_certificate.specs.Certificate.{claim, Certifies}
 use Rattle.master_state.specs.Jobs.{Job}
 use Rattle.master_state.specs.Steps.{problem_of}
+use Rattle.master_core.specs.declared.kept.Kept.TheVariants.{Near}
+use Rattle.master_core.proofs.Nearness.{present_is_near, with_engine}
 use Rattle.master_core.proofs.Present.{splits_of_problem, workers_of_problem}
+use Rattle.master_core.proofs.Touching.{present_flagged}
 use Rattle.master_core.proofs.master.Master.best_plan.Goals.{In-Ok}
 use Rattle.master_core.proofs.master.Master.best_plan.Goals as goal
 
@@ -38,3 +41,11 @@ returns-clause-sizes c =
       split_prices = sizes.split_prices ∙ splits;
       worker_prices = sizes.worker_prices ∙ workers;
     }
+
+pub invariant_of-self-2 : goal.invariant_of-self-2
+invariant_of-self-2 c =
+    let present = wave_is (goal.at.invariant_of-self-2 c).In-Ok in
+    with_engine c.self.invariant (Near c.in-Ok.engine) c.clear.new.self (
+      present_is_near c.in-Ok.engine.wave c.self.invariant c.self.view_is present,
+      present_flagged c.self.inside c.in-Ok.engine.wave c.clear.new.self c.self.view_is present,
+    )

@@ -21,7 +21,7 @@ after c =
     follows (part_end c.args.end c.args.attempt) c.self.invariant c.self.view_is plain.known plain.allowed
     (rw c.record_event.ensures.capacity refl)
     (c.record_event.ensures.items
-    ∙ ap (λ (e : Event). old.history.items ++ e ∷ []) (c.of_part.ensures (state_of old)))
+    ∙ ap (λ (e : Event). old.history.items ++ e ∷ []) (c.of_part.ensures.event (state_of old)))
     c.record_event.ensures.place
     (part_ended c.self.invariant.kept.tidy (part_runs_in c.self.invariant c.self.view_is c.requires.0)
     c.args.end

@@ -1,11 +1,13 @@
 use Rattle.std.proofs.Common.{◌≡◌, ◌∙◌, refl, sym}
 use Rattle.master_state.specs.Refusals.{MapDone}
 use Rattle.master_state.specs.Tests.{split_at}
+use Rattle.master_tables.specs.declared.entries.SplitEntry.TheVariants.{Done}
 use Rattle.master_tables.specs.Entries.{shown_as}
 use Rattle.master_core.specs.Inside.{setup_of, state_of}
 use Rattle.master_core.proofs.Accepting.{Follows, follows, with_tables}
 use Rattle.master_core.proofs.Found.{entry_at, text_known}
-use Rattle.master_core.proofs.Nearness.{bars_given}
+use Rattle.master_state.proofs.BarRoom.{bars_given}
+use Rattle.master_core.proofs.Touching.{flagged_updated}
 use Rattle.master_core.proofs.Completing.{done_is, made_done, map_refusal, of_split, shown-done_at}
 use Rattle.master_core.proofs.Completing.{split_taken}
 use Rattle.master_core.proofs.Ended.{numbered, split_runs_in}
@@ -40,7 +42,8 @@ give_slots-requires c =
     c.self.invariant.kept.tidy)
 
 after : (c : goal.After-record_event) →
-    Follows (with_tables c.self.inside c.give_slots.new.workers c.self.inside.holders
+    Follows (with_tables (record c.self.inside { touched = c.touch.new.self }) c.give_slots.new.workers
+    c.self.inside.holders
     c.finish_split.new.entries c.self.inside.parts c.record_event.new.history) c.args.self.now (MapDone
     c.args.attempt c.args.made) c.record_event.result
 after c =
@@ -61,7 +64,11 @@ after c =
       shown-done_at one c.args.made old.splits.items split,
     ) refl) refl
     (rw c.finish_split.ensures (made_done (setup_of old) one c.args.made old.splits.items split right
-    c.self.invariant.made)) (rw (c.give_slots.ensures, bars_given old.workers _) c.self.invariant.near)
+    c.self.invariant.made)) (
+      rw (c.give_slots.ensures, bars_given old.workers _) c.self.invariant.near.0,
+      rw c.finish_split.ensures (flagged_updated old.engine old.touched c.touch.new.self (λ _. Done one c.args.made) old.splits.items split
+          c.touch.ensures.here c.touch.ensures.before c.self.invariant.near.1),
+    )
 
 pub invariant_of-self : goal.invariant_of-self
 invariant_of-self c = (after c).master

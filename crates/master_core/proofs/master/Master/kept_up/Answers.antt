@@ -10,7 +10,8 @@ use Rattle.worker_table.specs.declared.Worker.{Worker}
 use Rattle.master_state.specs.Jobs.{Job}
 use Rattle.master_state.specs.Steps.{problem_of, worker_line}
 use Rattle.master_tables.specs.declared.entries.SplitEntry.{SplitEntry}
-use Rattle.master_core.specs.Near.{flags_of, HasPlaces}
+use Rattle.master_tables.specs.Entries.{shown_as}
+use Rattle.master_core.specs.Near.{flags_of, HasFlags, HasPlaces}
 use Rattle.master_core.proofs.Nearness.{few_free, length-flags, lines_in, many_flags, many_lines, turned_is}
 use Rattle.master_core.proofs.master.Master.kept_up.Goals.{After-deref}
 use Rattle.master_core.proofs.master.Master.kept_up.Goals as goal
@@ -19,7 +20,7 @@ near : (c : After-deref) →
     HasPlaces c.args.engine.wave c.self.inside.cluster c.self.inside.holders c.self.inside.workers.barred
 near c =
     subst (λ (j : Job). HasPlaces c.args.engine.wave j.setup.cluster j.state.holders j.state.workers.barred)
-    (sym c.self.view_is) c.requires
+    (sym c.self.view_is) c.requires.near
 
 workers_are : (c : After-deref) → c.workers.result.now ≡ c.self.inside.workers.each
 workers_are c = c.workers.ensures.value
@@ -61,3 +62,10 @@ returns-clause-present c =
     ∙ turned_is c.self.invariant (near at)
     ∙ ap (λ (j : Job). problem_of j.setup j.state) c.self.view_is)
     c.kept_up.ensures.wave
+
+pub kept_up-requires-clause-flagged : goal.kept_up-requires-clause-flagged
+kept_up-requires-clause-flagged c =
+    subst (λ (entries : List SplitEntry). HasFlags c.args.engine.wave c.args.touched.now (map shown_as entries))
+    (sym c.deref.ensures.value)
+    (subst (λ (j : Job). HasFlags c.args.engine.wave c.args.touched.now j.state.splits) (sym c.self.view_is)
+    c.requires.flagged)

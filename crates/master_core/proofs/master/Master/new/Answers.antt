@@ -1,7 +1,6 @@
-use Rattle.std.proofs.Common.{◌∙◌, ℕ, List, length, map, ap, arith}
+use Rattle.std.proofs.Common.{◌∙◌, ℕ, length, map, ap, refl, arith}
 use Rattle.std.specs.Prelude.{replicate}
 use Rattle.wave_problem.specs.Wave.{Split}
-use Rattle.worker_table.specs.Workers.{opening_workers}
 use Rattle.master_state.specs.declared.states.PartState.TheVariants as part
 use Rattle.master_state.specs.States.{Setup}
 use Rattle.master_tables.specs.declared.entries.SplitEntry.TheVariants.{Pending}
@@ -15,8 +14,7 @@ returns-clause-state c =
     c.in_ok-parts.parts.items c.in_ok-lists.lists.starts.items c.in_ok-lists.lists.sweeps.items
     (length c.in_ok-lists.lists.history.items)
     (c.in_ok-workers.ensures
-    ∙ ap (λ (slots : List ℕ). opening_workers slots c.silence.result) c.slots.ensures.value
-    ∙ ap (opening_workers c.args.cluster.slots) c.silence.ensures.count)
+    ∙ rw (c.slots.ensures.value, c.splits-split_count.ensures.value, c.silence.ensures.count) refl)
     c.in_ok-holders.ensures
     (c.in_ok-splits.ensures ∙ ap (map (λ (split : Split). Pending)) c.splits.ensures.value)
     (c.in_ok-parts.ensures.items_if_clones_equal (λ _ e. e)
@@ -38,5 +36,5 @@ invariant_of-result c =
       };
       made = made_from setup c.in_ok-splits.splits.items
           (c.in_ok-splits.ensures ∙ ap (map (λ (split : Split). Pending)) c.splits.ensures.value);
-      near = tt;
+      near = (tt, tt);
     }

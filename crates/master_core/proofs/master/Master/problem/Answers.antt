@@ -1,5 +1,6 @@
-use Rattle.std.proofs.Common.{◌≡◌, map, ap, sym, ◌∙◌, length}
+use Rattle.std.proofs.Common.{◌≡◌, map, ap, ◌∙◌, length}
 use Rattle.std.proofs.lemmas.Result.{IfOk-weaker}
+use Rattle.worker_table.specs.Bars.{Bars}
 use Rattle.wave_problem.specs.Wave.{Wave}
 use Rattle.master_state.specs.Steps.{worker_line}
 use Rattle.master_core.proofs.Present.{AreParts, problem_is, parts_within, splits_of_problem}
@@ -18,8 +19,7 @@ parts_are c = record {
     c.splits.ensures.value,
     c.deref.ensures.value,
   );
-  barred_are = rw (sym c.bars.ensures, sym c.splits-split_count.ensures.value, sym c.slots.ensures.value)
-      c.in_ok-barred.ensures;
+  barred_are = c.in_ok-barred.ensures ∙ ap (λ (b : Bars). b.rows) c.bars.ensures;
 }
 
 pub within_limits-requires : goal.within_limits-requires

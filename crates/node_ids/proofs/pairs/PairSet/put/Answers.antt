@@ -2,7 +2,7 @@ use Rattle.std.proofs.Common.{◌≡◌, ◌∙◌, ◌<◌, ◌⊎◌, ◌↔�
 use Rattle.std.proofs.Common.{Result, Ok, Err}
 use Rattle.std.specs.Prelude.{OnOk}
 use Rattle.std.proofs.lemmas.List.{get_or-map, length-map, map-set}
-use Rattle.node_ids.specs.Sets.{with_pair, with_worker, HasPair}
+use Rattle.node_ids.specs.Sets.{with_pair, row_with, HasPair}
 use Rattle.node_ids.proofs.Updating.{updated_at}
 use Rattle.node_ids.proofs.Rows.{pairs-with_pair}
 use Rattle.node_ids.proofs.pairs.PairSet.put.Goals as goal
@@ -19,11 +19,11 @@ module _ (c : goal.After-self-1) where
       ∙ sym (get_or-map (λ row. row.items) c.self.inside.rows.items c.index.result c.index_mut.result.now
       c.index_mut.result.now.items (rw c.index.ensures.value (rw length-map at known)))
 
-  pub made : c.put_in_row.new.row.items ≡ with_worker c.args.worker c.index_mut.result.now.items
+  pub made : c.put_in_row.new.row.items ≡ row_with c.args.worker c.index_mut.result.now.items
       → map (λ row. row.items) (set c.self.inside.rows.items c.index.result c.put_in_row.new.row)
       ≡ with_pair rows c.args.split c.args.worker
   made new = map-set (λ row. row.items) c.self.inside.rows.items c.index.result c.put_in_row.new.row
-      ∙ updated_at (with_worker c.args.worker) rows rows c.index.result c.args.split
+      ∙ updated_at (row_with c.args.worker) rows rows c.index.result c.args.split
       c.index_mut.result.now.items
       c.put_in_row.new.row.items c.index.ensures.value (λ i. rows) entry new known
 

@@ -14,4 +14,4 @@ invariant_of-self g c = grind (arith, common_steps)
 
 pub enter-requires-clause-counts : goal.enter-requires-clause-counts
 enter-requires-clause-counts g c =
-    counted _ _ _ _ 0 refl refl (takes _ _ _ _ c.map_done-answer.ensures.answer)
+    counted _ _ _ _ 0 refl refl refl (takes _ _ _ _ c.map_done-answer.ensures.answer)

@@ -10,4 +10,4 @@ returns-clause-step g c =
 
 pub enter-requires-clause-counts : goal.enter-requires-clause-counts
 enter-requires-clause-counts g c =
-    counted _ _ _ _ 0 refl refl (takes _ _ _ _ c.part_done-answer.ensures.answer)
+    counted _ _ _ _ 0 refl refl refl (takes _ _ _ _ c.part_done-answer.ensures.answer)

@@ -19,4 +19,4 @@ invariant_of-self g c = grind (arith, common_steps)
 
 pub enter-requires-clause-counts : goal.enter-requires-clause-counts
 enter-requires-clause-counts g c =
-    counted _ ReduceStart _ _ 0 refl refl (takes_reduce _ _ _ c.reduce_start-answer.ensures)
+    counted _ ReduceStart _ _ 0 refl refl refl (takes_reduce _ _ _ c.reduce_start-answer.ensures)

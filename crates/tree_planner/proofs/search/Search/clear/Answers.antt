@@ -9,6 +9,7 @@ pub loop-k-init : goal.loop-k-init
 loop-k-init c = record {
   tables = c.requires.tables;
   row = refl;
+  lows = refl;
   forgotten = forgotten_first c.args.tree.now c.args.self.now c.requires.reached c.requires.short;
 }
 
@@ -30,13 +31,14 @@ loop-k-preserved c =
         covers = i.tables.covers;
       };
       row = i.row;
+      lows = i.lows;
       forgotten = λ v. forgotten_next first now (record now { far = far; order = order }) c.loop-k.k c.at-node.result
           (ap (λ (r : Reached). get_or r.nodes.items c.loop-k.k Cluster) (sym i.row) ∙ sym c.at-node.ensures)
           (omega arith) none (c.set.ensures.others (2 ^ 54)) (c.set-in-loop-k.ensures.others 0) v (i.forgotten v);
     }
 
-pub returns : goal.returns
-returns c =
+pub returns-clause-blank : goal.returns-clause-blank
+returns-clause-blank c =
     let i = c.loop-k.invariant in
     all_forgotten c.args.tree.now c.args.self.now c.loop-k.self i.tables
     (ap (λ (r : Reached). length r.nodes.items) i.row)

@@ -8,5 +8,6 @@ abbrev pub invariant-loop-k : goal.invariant-loop-k
 invariant-loop-k l = record {
   tables : HasTables l.tree l.self;
   row : l.self.reached ≡ l.fn.self.reached;
+  lows : l.self.lows ≡ l.fn.self.lows;
   forgotten : (v : TreeNode) → IsForgotten l.fn.self l.self l.k v;
 }
