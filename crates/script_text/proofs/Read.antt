@@ -31,10 +31,10 @@ IsOfJob purpose = (purpose ≡ Playing) ⊎ (purpose ≡ Running)
 few-fit : (purpose : Purpose) (rows : List Statement) → IsOfJob purpose
     → ((word : Keyword) → IsFew (most_of Three purpose word) (length (rows_of word rows))) → FitMaster rows
 few-fit Playing rows job few = record { few_workers = few Worker; few_splits = few Split }
-few-fit Running rows job few =
-    let workers : length (rows_of Worker rows) ≤ 1024 = few Worker in
-    let splits : length (rows_of Split rows) ≤ 1024 = few Split in
-    record { few_workers = omega (arith, workers); few_splits = omega (arith, splits) }
+few-fit Running rows job few = record {
+  few_workers = let workers : length (rows_of Worker rows) ≤ 1024 = few Worker in omega (arith, workers);
+  few_splits = few Split;
+}
 few-fit purpose rows (inl is) few = absurd cc
 few-fit purpose rows (inr is) few = absurd cc
 
