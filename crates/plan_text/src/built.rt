@@ -12,6 +12,7 @@ ghost use Rattle.plan_text.specs.Value.{IsBarred, MakesWave, centre_number, decl
 ghost use Rattle.plan_text.specs.Value.{declared_starts, declared_tree, declared_worker, number_in, price_at};
 ghost use Rattle.plan_text.specs.Value.{prices_in, rack_number, start_at};
 
+use crate::name_list::NameList;
 use crate::tidy_rows::TidyRows;
 use line_shapes::Keyword;
 use node_ids::{CentreNo, PairSet, RackNo, SplitNo, WorkerNo};
@@ -21,7 +22,7 @@ use std::alloc::{AllocError, Global};
 use text_lines::NameTable;
 use wave_problem::{Plan, Problem, ProblemError, SplitLine, WorkerLine};
 
-/// A problem, a plan and prices of one size, and the names of their splits and workers by number.
+/// A problem, a plan and prices of one size, and the names of their splits and workers.
 #[derive(Drop)]
 pub struct PlanText<'t> {
     pub problem: Problem,
@@ -35,8 +36,8 @@ pub struct PlanText<'t> {
 #[derive(Drop)]
 pub struct ProblemText<'t> {
     pub problem: Problem,
-    pub splits: NameTable<'t>,
-    pub workers: NameTable<'t>,
+    pub splits: NameList<'t>,
+    pub workers: NameList<'t>,
 }
 
 /// The problem, plan and prices that the rows of a text declare. The only error is want of memory.
@@ -49,13 +50,15 @@ pub fn build_plan_text<'t>(
 {
     let plan = build_plan(alloc, rows)?;
     let prices = build_prices(alloc, rows)?;
-    let read = build_problem_text(alloc, rows)?;
+    let problem = build_problem(alloc, rows)?;
+    let splits = rows.names(alloc, Keyword::Split)?;
+    let workers = rows.names(alloc, Keyword::Worker)?;
     Ok(PlanText {
-        problem: read.problem,
+        problem,
         plan,
         prices,
-        splits: read.splits,
-        workers: read.workers,
+        splits,
+        workers,
     })
 }
 
@@ -69,8 +72,8 @@ pub fn build_problem_text<'t>(
     ensures workers { IfOk result (λ v. length v.workers ≡ length v.problem.workers) }
 {
     let problem = build_problem(alloc, rows)?;
-    let splits = rows.names(alloc, Keyword::Split)?;
-    let workers = rows.names(alloc, Keyword::Worker)?;
+    let splits = rows.name_list(alloc, Keyword::Split)?;
+    let workers = rows.name_list(alloc, Keyword::Worker)?;
     Ok(ProblemText {
         problem,
         splits,

@@ -10,11 +10,13 @@
 
 pub mod built;
 pub mod check_report;
+pub mod name_list;
 pub mod plan_report;
 pub mod reader;
 pub mod tidy_rows;
 
 pub use built::{PlanText, ProblemText};
 pub use line_rules::ReadingError;
+pub use name_list::NameList;
 pub use reader::{read_plan, read_problem};
 pub use tidy_rows::TidyRows;

@@ -4,18 +4,18 @@ ghost use Rattle.rack_tree.specs.declared.TheConstants.{MAX_WORKERS};
 ghost use Rattle.plan_text.specs.Report.{price_line, price_lines, price_lines_of, start_line, start_lines};
 ghost use Rattle.text_lines.specs.WaveLine.{wave_line};
 
+use crate::name_list::NameList;
 use node_ids::{SplitNo, WorkerNo};
 use price_certificate::Prices;
 use std::alloc::{AllocError, Global};
-use text_lines::NameTable;
 use wave_problem::Plan;
 
 /// The answer to a problem: how many splits its plan starts, their byte-distance, and the starts by
 /// rising split.
 pub fn planned(
     alloc: Global,
-    splits: &NameTable<'_>,
-    workers: &NameTable<'_>,
+    splits: &NameList<'_>,
+    workers: &NameList<'_>,
     plan: &Plan,
     count: usize,
     cost: u64,
@@ -33,8 +33,8 @@ pub fn planned(
 /// hold a front of them; their owner drops them.
 pub fn add_prices(
     lines: &mut String,
-    splits: &NameTable<'_>,
-    workers: &NameTable<'_>,
+    splits: &NameList<'_>,
+    workers: &NameList<'_>,
     prices: &Prices,
 ) -> Result<(), AllocError>
     requires splits { length splits.now ≡ length prices.now.splits }
@@ -56,8 +56,8 @@ fn wave(alloc: Global, count: usize, cost: u64) -> Result<String, AllocError>
 
 fn add_starts(
     lines: &mut String,
-    splits: &NameTable<'_>,
-    workers: &NameTable<'_>,
+    splits: &NameList<'_>,
+    workers: &NameList<'_>,
     plan: &Plan,
 ) -> Result<(), AllocError>
     requires { length splits.now ≡ length plan.now.starts }
@@ -75,7 +75,7 @@ fn add_starts(
 fn add_start(
     lines: &mut String,
     split: &str,
-    workers: &NameTable<'_>,
+    workers: &NameList<'_>,
     start: Option<WorkerNo>,
 ) -> Result<(), AllocError>
     ensures { OnOk result (string_bytes lines.new
@@ -95,7 +95,7 @@ fn add_start(
 
 fn add_split_prices(
     lines: &mut String,
-    splits: &NameTable<'_>,
+    splits: &NameList<'_>,
     prices: &Prices,
 ) -> Result<(), AllocError>
     requires same { length splits.now ≡ length prices.now.splits }
@@ -112,7 +112,7 @@ fn add_split_prices(
 
 fn add_worker_prices(
     lines: &mut String,
-    workers: &NameTable<'_>,
+    workers: &NameList<'_>,
     prices: &Prices,
 ) -> Result<(), AllocError>
     requires same { length workers.now ≡ length prices.now.workers }

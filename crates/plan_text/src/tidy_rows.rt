@@ -12,6 +12,7 @@ ghost use Rattle.plan_text.specs.Names.{names_of, nth_word};
 ghost use Rattle.plan_text.specs.Tidy.{AreTidy, IsAtMost};
 ghost use Rattle.plan_text.specs.Value.{number_in, stands_in};
 
+use crate::name_list::NameList;
 use line_rules::{Row, Rows};
 use line_shapes::Keyword;
 use node_ids::{RackNo, SplitNo, WorkerNo};
@@ -169,7 +170,19 @@ impl<'r, 't> TidyRows<'r, 't> {
         RackNo::new(self.declared(Keyword::Rack, name) as u16)
     }
 
-    /// The names that the rows of a keyword declare, numbered in their order.
+    /// The names that the rows of a keyword declare, in their order.
+    pub fn name_list(&self, alloc: Global, keyword: Keyword) -> Result<NameList<'t>, AllocError>
+        ensures { IfOk result (λ names. names ≡ names_of keyword self.now) }
+    {
+        let count = self.count(keyword);
+        let mut names = NameList::with_room(alloc, count)?;
+        for number in 0..count {
+            names.push(self.word(keyword, number, 0))?;
+        }
+        Ok(names)
+    }
+
+    /// The same in a table, in which the number of a name is looked up.
     pub fn names(&self, alloc: Global, keyword: Keyword) -> Result<NameTable<'t>, AllocError>
         requires { entering keyword ≡ ByWord }
         ensures { IfOk result (λ names. names ≡ names_of keyword self.now) }
