@@ -42,20 +42,23 @@ Tells done failed true hand given after =
 -- without any it failed.
 abbrev pub IsMapTold : Setup → ℕ → Option MapView → HandValue → Type 0
 IsMapTold setup a (Some made) hand =
-    (given : Answer (Unit {0}) MapView) × (after : HandValue) × IsStepOf setup hand (MapDone a made) [] given after
+    (given : Answer (Unit {0}) MapView) × (after : HandValue)
+    × IsStepOf setup hand (MapDone a made) [] given after
 IsMapTold setup a None hand =
     (given : Plain) × (after : HandValue) × IsStepOf setup hand (MapFailed a) [] given after
 
 -- A master of the job took the worker's first call for a reduce attempt.
 abbrev pub IsPartTold : Setup → ℕ → Option PartView → HandValue → Type 0
 IsPartTold setup a (Some made) hand =
-    (given : Answer (Unit {0}) PartView) × (after : HandValue) × IsStepOf setup hand (PartDone a made) [] given after
+    (given : Answer (Unit {0}) PartView) × (after : HandValue)
+    × IsStepOf setup hand (PartDone a made) [] given after
 IsPartTold setup a None hand =
     (given : Plain) × (after : HandValue) × IsStepOf setup hand (PartFailed a) [] given after
 
 -- the master has answered a worker's call for a map order; no other is asked for
 abbrev pub IsAnswered : Setup → Order → Type 0
-IsAnswered setup (order.Map a text) = (made : Option MapView) × (hand : HandValue) × IsMapTold setup a made hand
+IsAnswered setup (order.Map a text) = (made : Option MapView) × (hand : HandValue)
+    × IsMapTold setup a made hand
 IsAnswered setup (order.Reduce a part runs) = ⊥
 
 -- A worker does its order: what is told is made of the text, or of the runs, that the order has.

@@ -1,4 +1,5 @@
-ghost use Rattle.std.specs.Prelude.{◌≡◌, ◌≢◌, ◌<◌, ◌≤◌, [], length, Err, Some, IfErr, IfSome, None, OnErr, OnOk, true};
+ghost use Rattle.std.specs.Prelude.{◌≡◌, ◌≢◌, ◌<◌, ◌≤◌, [], length, Err, Some, IfErr, IfSome, None, OnErr};
+ghost use Rattle.std.specs.Prelude.{OnOk, true};
 ghost use Rattle.std.specs.Arc.{arc_value};
 ghost use Rattle.beat_board.specs.Values.{SeatValue};
 ghost use Rattle.std.specs.Option.{is_some};
@@ -6,7 +7,8 @@ ghost use Rattle.master_state.specs.declared.events.Event.{Event};
 ghost use Rattle.shuffle_reduce.specs.Gather.{texts_of_runs};
 ghost use Rattle.hand_ledger.specs.Hands.{new_hand, with_place};
 ghost use Rattle.job_threads.specs.Steps.{MayEndWith};
-ghost use Rattle.job_threads.specs.Telling.{Does, HasWorked, IsAnswered, IsMapTold, IsPartTold, Performs, Tells};
+ghost use Rattle.job_threads.specs.Telling.{Does, HasWorked, IsAnswered, IsMapTold, IsPartTold, Performs};
+ghost use Rattle.job_threads.specs.Telling.{Tells};
 ghost use Rattle.job_threads.specs.Telling.{worker_room};
 ghost use Rattle.job_threads.specs.declared.gate.Go.{Go};
 ghost use Rattle.job_threads.specs.declared.outcome.RunError.{RunError};

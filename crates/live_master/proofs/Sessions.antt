@@ -178,7 +178,8 @@ named_empty names draft is = record {
 holds_started : (old : Session) (starts : List (Option ℕ)) (wave : Wave) (job : Job)
     → IsCommitted old.master starts wave job → HoldsRuns old.given old.master → HoldsRuns old.given job
 holds_started old starts wave job committed holds =
-    let done : Performed old.script.names 0 old.master command.Wave [] (wave_lines old.script.names starts wave) job =
+    let done : Performed old.script.names 0 old.master command.Wave []
+    (wave_lines old.script.names starts wave) job =
     record {
       out = wave_lines old.script.names starts wave;
       performs = record { plan = starts; wave = wave; committed = committed; out_is = refl };
@@ -242,7 +243,8 @@ live_started old new before now a wave found certified committed written last he
       wave = wave;
       committed = committed;
       out_is = refl;
-      last = ap (option_map claim_of) last ∙ ap (λ (p : planned.Wave). Some (claim p a.plan.starts a.prices)) found;
+      last = ap (option_map claim_of) last ∙ ap (λ (p : planned.Wave). Some (claim p a.plan.starts a.prices))
+          found;
     },
   );
   head = head;
@@ -290,9 +292,11 @@ told_audit s a before now text last certified told written =
       told = subst (λ (last : Option Audited). AnswersAudit (option_map claim_of last) text) (sym last)
           (inl (record {
             told = told;
-            certified = subst (λ (starts : List (Option ℕ)). Certifies (claim read.problem starts read.prices))
+            certified = subst (λ (starts : List (Option ℕ)).
+                Certifies (claim read.problem starts read.prices))
                 (sym told.starts)
-                (subst (λ (prices : PriceList). Certifies (claim read.problem a.plan.starts prices)) (sym told.prices)
+                (subst (λ (prices : PriceList). Certifies (claim read.problem a.plan.starts prices))
+                (sym told.prices)
                 (same_certifies read.problem a.problem a.plan.starts a.prices told.same certified));
           }));
     }
@@ -366,10 +370,16 @@ module _ (old new : Session) (line : Line) (before now : List ℕ) where
   hears_told request is same told = record {
     out = told.out;
     written = told.written;
-    replies = inr (inr (inl (record { request = request; line_is = is; told = told.told; unchanged = same })));
+    replies = inr (inr (inl (record {
+      request = request;
+      line_is = is;
+      told = told.told;
+      unchanged = same;
+    })));
   }
 
-  pub hears_commit : (turn : Turn) → line ≡ word_of request.Commit → (turn ≡ More) × Committed old before now new
+  pub hears_commit : (turn : Turn) → line ≡ word_of request.Commit →
+      (turn ≡ More) × Committed old before now new
       → Hears old line turn before now new
   hears_commit turn is done =
       let hears : Hears old line More before now new = record {

@@ -64,13 +64,15 @@ module _ (line : Line) (answer : List ℕ) (said : Said) (old mid new : Live) (s
   others = subst (λ (l : Live). AreToldIn l.known l.names said s.commands s.report) head s.told
 
   rest : PerformsAllLive old.names old.target mid.job s.commands s.report new.job
-  rest = subst (λ (l : Live). PerformsAllLive l.names l.target mid.job s.commands s.report new.job) head s.performs
+  rest = subst (λ (l : Live). PerformsAllLive l.names l.target mid.job s.commands s.report new.job) head
+      s.performs
 
   ends : Moves old new
   ends = s.head ∙ ap (λ (l : Live). record l { job = new.job; last = new.last; draft = new.draft }) head
 
   -- it told the master nothing
-  aside : IsAside old.known old.names line answer → mid.job ≡ old.job → IsSession old ((line, answer) ∷ said) new
+  aside : IsAside old.known old.names line answer → mid.job ≡ old.job
+      → IsSession old ((line, answer) ∷ said) new
   aside is same = record {
     commands = s.commands;
     report = s.report;
@@ -93,7 +95,8 @@ module _ (line : Line) (answer : List ℕ) (said : Said) (old mid new : Live) (s
 
   -- it committed a plan, which is a wave, or started nothing
   committed : line ≡ word_of request.Commit → (result : Result Wave CommitError)
-      → CommitsPlan old.names old.draft old.job result answer mid.job → IsSession old ((line, answer) ∷ said) new
+      → CommitsPlan old.names old.draft old.job result answer mid.job
+      → IsSession old ((line, answer) ∷ said) new
   committed is (Ok wave) commits = commanded command.Wave (inr (is, refl)) (inl (record {
     plan = old.draft.starts;
     wave = wave;
@@ -132,13 +135,15 @@ transcript ((line, answer) ∷ said) old new (mid, inl tells, rest) =
     (moves old mid mid.job mid.last old.draft tells.head) tells.command
     (inl (record {
       statement = tells.statement;
-      fit = subst (λ (l : Line). IsFitLine old.known l tells.statement) (heard_short line tells.short) tells.fit;
+      fit = subst (λ (l : Line). IsFitLine old.known l tells.statement) (heard_short line tells.short)
+          tells.fit;
       says = tells.says;
     }))
     (performs_job old mid tells.command answer tells.performs)
 transcript ((line, answer) ∷ said) old new (mid, inr (inl commits), rest) =
     committed line answer said old mid new (transcript said mid new rest)
-    (moves old mid _ _ _ commits.head) (whole_request line request.Commit commits.line_is) commits.result commits.commits
+    (moves old mid _ _ _ commits.head) (whole_request line request.Commit commits.line_is) commits.result
+    commits.commits
 transcript ((line, answer) ∷ said) old new (mid, inr (inr (inl asks)), rest) =
     aside line answer said old mid new (transcript said mid new rest)
     (moves old mid old.job old.last old.draft asks.unchanged)

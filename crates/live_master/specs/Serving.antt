@@ -202,8 +202,8 @@ pub record Asks (old : Live) (line : Line) (out : List ℕ) (new : Live) : Type 
   pub unchanged : new ≡ old
 
 -- The fault of a line, by what the head and the lines of a plan say: a line of 524,288 bytes or more is too
--- long, of another one it is the least by the rules of texts. A line that may not stand among commands is read
--- as a line of a plan.
+-- long, of another one it is the least by the rules of texts. A line that may not stand among commands is
+-- read as a line of a plan.
 abbrev pub IsFaultOf : Live → Line → Fault → Type 0
 IsFaultOf old line fault = ((524288 ≤ length line) × (fault ≡ TooLong))
     ⊎ (((length line < 524288) × (fault ≢ Misplaced) × IsLeastOf (LineHas old.known line) fault)
@@ -221,7 +221,8 @@ pub record Refuses (old : Live) (line : Line) (out : List ℕ) (new : Live) : Ty
 -- a line that is no command
 abbrev pub GoesOnAside : Live → Line → List ℕ → Live → Type 0
 GoesOnAside old line out new = Asks old line out new
-    ⊎ (Refuses old line out new ⊎ (Drafts old line out new ⊎ (LacksPrices old line out new ⊎ Drops old line out new)))
+    ⊎ (Refuses old line out new ⊎ (Drafts old line out new
+    ⊎ (LacksPrices old line out new ⊎ Drops old line out new)))
 
 -- a line that is no `end`
 abbrev pub GoesOn : Live → Line → List ℕ → Live → Type 0
@@ -289,7 +290,8 @@ pub record Obeys (old : Session) (statement : Statement) (turn : Turn) (before n
       → Replies (live_of old) line turn out (live_of new)
 
 -- what a line makes it write and do
-pub record Hears (old : Session) (line : Line) (turn : Turn) (before now : List ℕ) (new : Session) : Type 0 where
+pub record Hears (old : Session) (line : Line) (turn : Turn) (before now : List ℕ) (new : Session)
+    : Type 0 where
   pub out : List ℕ
   pub written : now ≡ before ++ out
   pub replies : Replies (live_of old) line turn out (live_of new)

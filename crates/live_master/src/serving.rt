@@ -1,5 +1,6 @@
 //! A live master: one line after another is answered, each before the next one is read.
-ghost use Rattle.std.specs.Prelude.{◌≡◌, ◌≢◌, ◌+◌, ◌-◌, ◌++◌, ◌<◌, ◌≤◌, ◌^◌, [], IfErr, IfOk, OnOk, Some, length};
+ghost use Rattle.std.specs.Prelude.{◌≡◌, ◌≢◌, ◌+◌, ◌-◌, ◌++◌, ◌<◌, ◌≤◌, ◌^◌, [], IfErr, IfOk, OnOk, Some};
+ghost use Rattle.std.specs.Prelude.{length};
 ghost use Rattle.std.specs.Prelude.{string_bytes};
 ghost use Rattle.wave_problem.specs.Assignment.{pairs_of};
 ghost use Rattle.line_shapes.specs.Lines.{statement_of};
@@ -22,9 +23,11 @@ ghost use Rattle.live_master.specs.Plans.{IsNoCommand, planning, wave_lines};
 ghost use Rattle.live_master.specs.Requests.{IsRequest, word_of};
 ghost use Rattle.live_master.specs.Refusals.{refusal_line};
 ghost use Rattle.live_master.specs.Serving.{Committed, CommittedPlan, GoesOnHearing, Hears, IsOpen, IsOpened};
-ghost use Rattle.live_master.specs.Serving.{IsSession, Live, Obeys, PerformedLive, Replies, Told, live_of, no_draft};
+ghost use Rattle.live_master.specs.Serving.{IsSession, Live, Obeys, PerformedLive, Replies, Told, live_of};
+ghost use Rattle.live_master.specs.Serving.{no_draft};
 ghost use Rattle.live_master.specs.Serving.{served_on};
-ghost use Rattle.live_master.specs.Sessions.{CutsOff, IsEndOf, IsHead, Serves, ServesLines, TakesHeadLine, Writes};
+ghost use Rattle.live_master.specs.Sessions.{CutsOff, IsEndOf, IsHead, Serves, ServesLines, TakesHeadLine};
+ghost use Rattle.live_master.specs.Sessions.{Writes};
 
 use crate::requests::{Request, add_all_outputs, add_open_work, request_of};
 use command_runner::{NoAnswer, ToolError};
@@ -104,8 +107,8 @@ impl<'t> Drop for Session<'t> {
 }
 
 /// Serves the master of the head that stands first, one command or query after another: each line is answered
-/// before the next line is read, and an empty line ends each answer. After `end` it answers how the script has
-/// ended. A head with a fault, and an input that ends before `end`, end in `ToolError::Text`, whose fault is
+/// before the next line is read, and an empty line ends each answer. After `end` it answers how the script
+/// has ended. A head with a fault, and an input that ends before `end`, end in `ToolError::Text`, whose fault is
 /// written.
 pub fn serve<R: BufRead, W: Write>(
     alloc: Global,
@@ -476,7 +479,8 @@ impl<'t> Session<'t> {
         requires ready { IsOpen self.old }
         requires fit { (text : Line) × IsFitLine self.old.known text (statement_of line.now) }
         ensures ready { OnOk result (IsOpen self.new) }
-        ensures ok { IfOk result (λ turn. Obeys self.old (statement_of line.now) turn (string_bytes answer.old)
+        ensures ok { IfOk result (λ turn. Obeys self.old (statement_of line.now) turn
+            (string_bytes answer.old)
             (string_bytes answer.new) self.new) }
     {
         match line.keyword {

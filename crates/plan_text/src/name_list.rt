@@ -3,8 +3,8 @@ ghost use Rattle.std.specs.Prelude.{◌≡◌, ◌++◌, ◌∷◌, [], IfOk, On
 use std::alloc::{AllocError, Global};
 use std::marker::Model;
 
-/// The names of the splits or of the workers, numbered from 0. A name is found by its number alone, so none is
-/// hashed.
+/// The names of the splits or of the workers, numbered from 0. A name is found by its number alone, so none
+/// is hashed.
 #[derive(Drop)]
 pub struct NameList<'t> {
     names: Vec<&'t str>,

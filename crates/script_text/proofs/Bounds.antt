@@ -84,7 +84,8 @@ module _ (n : ℕ) (k : Known) (s : Statement) (whole : length (places_of s.keyw
       (counted_by e k s.keyword) in
       let counted = subst Room is fit.within_limit.room in
       let room : length k.commands < most_commands k.version =
-      subst (λ (m : Option ℕ). IsFewer m (length k.commands)) (most_of_command k.version k.purpose s.keyword is)
+      subst (λ (m : Option ℕ). IsFewer m (length k.commands))
+      (most_of_command k.version k.purpose s.keyword is)
       counted in
       record {
         few = omega (arith, room, most-newest k.version, length_push k.commands s);

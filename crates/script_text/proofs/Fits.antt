@@ -99,7 +99,8 @@ module _ (version : Version) (rows : List Statement) (tidy : AreTidy rows) (head
   few_documents =
       let names = names_of Split rows in
       let lines = rows_of Doc rows in
-      let apart = IsDistinct-from_AllPairs bytes_eq-Decides names (names_differ Split refl rows tidy.differ) in
+      let apart = IsDistinct-from_AllPairs bytes_eq-Decides names
+      (names_differ Split refl rows tidy.differ) in
       let once = counted_once bytes_eq is_in one_split names apart (enumerate_from 0 lines) in
       let all = ap (sum_by count) makes.texts ∙ documents_together lines 0 names in
       omega (arith, all, once, length-enumerate_from 0 lines, tidy.few_documents)

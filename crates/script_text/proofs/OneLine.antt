@@ -52,7 +52,8 @@ module _ (k : Known) (line : Line) (s : Statement) (fit : IsFitLine k line s) (p
 
   short : length (rows_of keyword.Worker k.rows) ≤ 32768 → IsShort 32768 s
   short few same =
-      let whole = subst (λ (j : Keyword). IsComplete k (record { keyword = j; words = s.words })) same fit.fit.whole in
+      let whole = subst (λ (j : Keyword). IsComplete k (record { keyword = j; words = s.words })) same
+      fit.fit.whole in
       omega (arith, whole, few)
 
   -- the command that it says knows no others

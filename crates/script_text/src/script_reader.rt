@@ -45,8 +45,8 @@ pub fn read_job(alloc: Global, text: &[u8]) -> Result<ScriptText<'_>, ReadingErr
     read_for(alloc, Purpose::Running, text)
 }
 
-/// What the head of a script declares, and what is known after its `begin`; or the text's least fault. The text
-/// is the head with an `end` behind it. Both values borrow their names from it.
+/// What the head of a script declares, and what is known after its `begin`; or the text's least fault. The
+/// text is the head with an `end` behind it. Both values borrow their names from it.
 pub fn read_opening(
     alloc: Global,
     text: &[u8],

@@ -64,7 +64,8 @@ few_attempts old count first room small is =
     omega arith
 
 pub wave_kept : (setup : Setup) (old : Job) (hand : HandValue) (plan : List (Option ℕ)) (prices : PriceList)
-    (shared : SharedWave) (new : Job) (after : HandValue) → IsMasterOf setup old → IsMadeOf setup plan prices →
+    (shared : SharedWave) (new : Job) (after : HandValue) → IsMasterOf setup old
+    → IsMadeOf setup plan prices →
     IsSharedWave old hand plan prices shared new after → IsKeptWave setup hand shared after
 wave_kept setup old hand plan prices shared new after of_job made wave =
     let above : last_place hand.calls < shared.wave.place =
@@ -134,7 +135,8 @@ map_starts old plan wave new committed kept =
     (subst (λ (l : List Start). All (IsStartOf new.setup) l) starts kept.tidy.known) in
     let known : All (IsStartOf old.setup) maps =
     subst (λ (z : Setup). All (IsStartOf z) maps) committed.next.setup known in
-    subst (λ (l : List Start). All (IsMapStart old.setup) l) (sym from) (all_maps old.setup (pairs_of plan) known)
+    subst (λ (l : List Start). All (IsMapStart old.setup) l) (sym from)
+    (all_maps old.setup (pairs_of plan) known)
 
 pub first_within : (old : Job) (plan : List (Option ℕ)) (wave : Wave) (new : Job) →
     IsCommitted old plan wave new → wave.first - 1 ≤ length new.state.starts
@@ -240,13 +242,15 @@ pub planned_as : (inside old : Job) (hand : HandValue) (plan : List (Option ℕ)
     Certifies (present inside plan prices) → IsCommitted inside plan wave new → IsKept new →
     shared.wave ≡ wave → shared.starts.items ≡ drop (wave.first - 1) new.state.starts →
     after ≡ with_call hand (kept_wave shared) → PlansAs old hand (Ok shared) new after
-planned_as inside old hand plan prices wave shared new after same own room made certifies committed kept tells starts
+planned_as inside old hand plan prices wave shared new after same own room made certifies committed kept
+    tells starts
     hand_is =
     let fits = has_room-wave inside old hand plan wave new same room committed in (
       plan,
       prices,
       subst (λ (j : Job). IsMadeIn j plan prices) same made,
-      shared_wave inside old hand plan prices wave shared new after same own fits (certifies, committed) kept tells
+      shared_wave inside old hand plan prices wave shared new after same own fits (certifies, committed)
+          kept tells
           starts hand_is,
     )
 
@@ -304,24 +308,27 @@ pub solved_as : (setup : Setup) (job : Job) (hand : HandValue) (problem : wave.W
     length problem.workers ≡ length setup.cluster.slots →
     IfOk given (λ s. IsMadeOver Racks problem s.planned.plan.starts s.planned.prices) →
     IfOk given (λ s. IsBest problem (pairs_of s.planned.plan.starts)) →
-    IfOk given (λ s. HasOneSize (claim problem s.planned.plan.starts s.planned.prices) s.planned.plan.workers) →
+    IfOk given (λ s. HasOneSize (claim problem s.planned.plan.starts s.planned.prices)
+    s.planned.plan.workers) →
     IfOk given (λ s. s.starts.items ≡ []) →
     IfOk given (λ s. length (pairs_of s.planned.plan.starts) ≤ vec_capacity s.starts) →
     ((e : WaveError) → given ≡ Err e → e ≡ Memory) → SolvesAs setup hand given after
-solved_as setup job hand problem (Ok solved) after of_job asked same splits workers over best size starts room err = (
-  record {
-    planned = job;
-    of_job = of_job;
-    made = subst (λ (p : wave.Wave). IsMadeOver Racks p solved.planned.plan.starts solved.planned.prices)
-        asked.present over;
-    best = subst (λ (p : wave.Wave). IsBest p (pairs_of solved.planned.plan.starts)) asked.present best;
-    fits = fits_of setup problem solved.planned.plan solved.planned.prices size splits workers;
-    starts = starts;
-    room = room;
-  },
-  same,
-)
-solved_as setup job hand problem (Err e) after of_job asked same splits workers over best size starts room err =
+solved_as setup job hand problem (Ok solved) after of_job asked same splits workers over best size
+    starts room err = (
+      record {
+        planned = job;
+        of_job = of_job;
+        made = subst (λ (p : wave.Wave). IsMadeOver Racks p solved.planned.plan.starts solved.planned.prices)
+            asked.present over;
+        best = subst (λ (p : wave.Wave). IsBest p (pairs_of solved.planned.plan.starts)) asked.present best;
+        fits = fits_of setup problem solved.planned.plan solved.planned.prices size splits workers;
+        starts = starts;
+        room = room;
+      },
+      same,
+    )
+solved_as setup job hand problem (Err e) after of_job asked same splits workers over best size
+    starts room err =
     let memory : e ≡ Memory = err e refl in
     subst (λ (m : WaveError). IsNoWaveOf setup hand m after) (sym memory) (record {
       job = job;
@@ -386,7 +393,8 @@ committed_as setup job hand held plan prices given shared new after same of_job 
 unplanned : (setup : Setup) (old : Job) (hand : HandValue) (e : WaveError) (after : HandValue) →
     IsMasterOf setup old → IsUnplanned old hand e →
     after ≡ noted_wave (length old.setup.cluster.splits) hand e → IsNoWaveOf setup hand e after
-unplanned setup old hand StrangeHand after of_job why is = unasked setup old hand StrangeHand after of_job why is
+unplanned setup old hand StrangeHand after of_job why is =
+    unasked setup old hand StrangeHand after of_job why is
 unplanned setup old hand Memory after of_job why is = unasked setup old hand Memory after of_job why is
 unplanned setup old hand HistoryFull after of_job why is = elim why.1 [
   | inl full ↦ unasked setup old hand HistoryFull after of_job (why.0, full) is

@@ -112,7 +112,8 @@ impl<L: Ledger + OfJob> Held<L> {
         ensures of_job { IsMasterOf L.setup self.now.job }
         ensures asked { MatchResult result
             (λ problem. IsAsked self.now.job hand.old problem × (hand.new ≡ hand.old))
-            (λ e. IsUnasked self.now.job hand.old e × (hand.new ≡ noted_wave (length self.now.job.setup.cluster.splits) hand.old e)) }
+            (λ e. IsUnasked self.now.job hand.old e
+            × (hand.new ≡ noted_wave (length self.now.job.setup.cluster.splits) hand.old e)) }
         ensures splits { IfOk result (λ problem. length problem.splits ≡ length L.setup.cluster.splits) }
         ensures workers { IfOk result (λ problem. length problem.workers ≡ length L.setup.cluster.slots) }
     {
