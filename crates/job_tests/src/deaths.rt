@@ -53,6 +53,7 @@ fn a_hand_grows_until_the_history_is_full(rt: HostRuntime) {
     let gate = Silences::new(51, 1000);
     let limits = Limits {
         events: 8_192,
+        sweeps: 8_192,
         ..AMPLE
     };
     let job = job_of(&rt, rt.alloc(), &[16], &rows, 1, 50, limits).expect(&rt, "no job");
