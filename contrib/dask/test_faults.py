@@ -68,7 +68,7 @@ def paused(trial: Trial, count: Count, sort: str) -> None:
     kinds = {*job.told()} & {"die", "join", "withdraw", "fail"}
     count.holds(f"{says}: nothing is lost, and each block starts once",
                 not kinds and len(job.attempts) == len(blocks.pieces), kinds)
-    free = {wave.wave.slots[at[0]] for wave in job.waves[1:]}
+    free = {wave.slots.get(at[0], 0) for wave in job.waves[1:]}
     count.holds(f"{says}: no wave has slots on it", free == {0}, free)
     judged(job, count, says)
 

@@ -28,7 +28,7 @@ def carried(trial: Trial, blocks: Blocks) -> Counter:
 
 def within_slots(job: Watched) -> bool:
     return all(
-        number <= it.wave.slots[worker] <= 1
+        number <= it.slots[worker] <= 1
         for it in job.waves for worker, number in Counter(attempt.worker for attempt in it.attempts).items()
     )
 
@@ -228,7 +228,7 @@ def beside_others(trial: Trial, count: Count, most: int) -> None:
         until(lambda: sum(it.others for it in look(client).workers.values()) == 4, "others' tasks run")
         lines = index_lines(job.run())
         client.gather(tasks)
-    free = {job.names[it] for it, number in job.waves[0].wave.slots.items() if number}
+    free = {job.names[it] for it in job.waves[0].slots}
     says = f"beside others' tasks while {most} maps are done"
     count.holds(f"{says}: the index is that of the reference", lines == trial.wanted)
     count.holds(f"{says}: the first wave goes to those that are free", free == {*NAMES[4:]}, free)

@@ -35,6 +35,7 @@ from reference_play import misplayed
 from test_ahead import anew, lengths, phases, saved
 from test_faults import without_scheduler
 from test_jobs import jobs
+from test_pending import candidates, edge, many, many_blocks
 from test_place import planners, racks
 from words import blocks_of, index_lines, map_words, reduce_words
 
@@ -168,9 +169,9 @@ def faults(program: str, count: Count) -> None:
         {f"w{it}": Place("r") for it in range(17)}, {"w0": 256, "w1": 1},
         {f"s{it}": Split(1 << 34, [f"w{at}" for at in range(17)], []) for it in range(1025)},
     )
-    shape = len(wide.splits), max(len(it.holders) for it in wide.splits.values()), wide.slots["w0"]
+    shape = max(len(it.holders) for it in wide.splits.values()), wide.slots["w0"]
     plan = planner_of(f"{program} plan", True).plan(wide)
-    count.holds("a wave takes 1,024 blocks, 16 holders and 255 slots", shape == (1024, 16, 255), shape)
+    count.holds("a wave takes 16 holders of a block and 255 slots", shape == (16, 255), shape)
     count.holds("blocks of 16 GiB are planned in units of 2 bytes", (len(plan.starts), plan.unit) == (256, 2), plan.unit)
 
 
@@ -338,6 +339,11 @@ def main() -> int:
     anew(planner, count)
     phases(planner, misplanned, count)
     saved(planner, count)
+    candidates(planner, misplanned, count)
+    for says, it in {"by the program": Command(f"{program} plan", True), "by the library": library}.items():
+        if it:
+            many(it, says, count)
+            edge(it, says, count)
     without_scheduler(planner, count)
 
     def commands(trial: Trial, count: Count) -> None:
@@ -346,6 +352,7 @@ def main() -> int:
         tables(program, trial, count)
         hdfs(program, trial, count)
         moosefs(program, trial, count)
+        many_blocks(trial, count)
 
     jobs(planner_of(f"{program} plan", True), count, commands)
     print(f"{count.passed} passed, {count.failed} failed")

@@ -16,9 +16,10 @@ from .blocks import Blocks, Splits
 from .files import Files, Row, read_mounted, read_table, read_web
 from .job import Job, Work
 from .keys import Keys
+from .pending import Place
 from .place import place, place_map
 from .placing import DeadlySplit, LostBlock, Placing
-from .planner import Command, Library, NoPlanner, Place, Planner, RarestFirst, Unfit, planner_of
+from .planner import Command, Library, NoPlanner, Planner, RarestFirst, Unfit, planner_of
 from .topology import GuessedRacks
 
 __all__ = ["place", "place_map", "Job", "Work", "Placing", "Blocks", "Splits", "Keys", "Files", "Row", "read_table"]

@@ -9,7 +9,8 @@ from __future__ import annotations
 from collections import Counter, defaultdict
 from typing import Mapping, Sequence
 
-from .planner import Planner, Split, Wave, distance, nearest
+from .pending import Split
+from .planner import Planner, Wave, distance, first_splits, nearest
 
 # Of the mean time of a call: so much later than when all splits could be done may a place still end, and for so long at
 # least is a running call taken to go on.
@@ -55,9 +56,9 @@ class Queues:
         starts = self.heads(wave)
         took = Counter(starts.values())
         slots = {worker: free - took[worker] for worker, free in wave.slots.items()}
-        splits = {split: it for split, it in wave.splits.items() if split not in starts}
-        if splits and any(free and not self.queues[worker] for worker, free in slots.items()):
-            left = wave._replace(slots=slots, splits=splits)
+        if len(starts) < len(wave.splits) and any(free and not self.queues[worker] for worker, free in slots.items()):
+            splits = {split: it for split, it in wave.splits.items() if split not in starts}
+            left = wave._replace(slots=slots, splits=first_splits(splits, slots))
             self.plan(left, {worker: [*running.get(worker, ()), *[0.0] * took[worker]] for worker in wave.places})
             starts.update(self.heads(left))
         return starts

@@ -4,7 +4,7 @@ from __future__ import annotations
 from typing import Any, Callable, Iterable, Mapping
 
 from .calls import Call, Copy, Look, Piece
-from .planner import Place
+from .pending import Place
 
 
 class Splits:

@@ -24,20 +24,21 @@ Piece = tuple[str, int, int]
 
 
 class Seen(NamedTuple):
-    """A live worker: its name, its slots, the threads on which tasks may start, none while it is paused, and how many
-    tasks it has that are not of the mark for which was looked."""
+    """A live worker: its name, its slots, the threads on which tasks may start, none while it is paused, how many tasks
+    it has that are not of the mark for which was looked, and what tells its process from another one at its address."""
 
     name: str
     slots: int
     threads: int
     others: int
+    process: str = ""
 
 
 class Look:
     """The live workers by address, the marked keys that no worker is left for, and who holds the keys asked for."""
 
     def __init__(self, workers: dict[str, Seen], aside: list[str], holders: dict[str, list[str]]) -> None:
-        self.workers, self.aside, self.holders = workers, {*aside}, holders
+        self.workers, self.aside, self.holders, self.everyone = workers, {*aside}, holders, [*workers]
         self.on: dict[str, list[str]] = {}
         for address, worker in workers.items():
             for node in {worker.name, host_of(address), address}:
@@ -70,7 +71,7 @@ def look(client: Client, mark: str = "", keys: Sequence[str] = ()) -> Look:
         workers = dask_scheduler.workers.items()
         tasks = [dask_scheduler.tasks[key] for key in keys if key in dask_scheduler.tasks]
         return (
-            {address: (str(it.name), it.nthreads, threads(it), others(it)) for address, it in workers},
+            {at: (str(it.name), it.nthreads, threads(it), others(it), str(it.server_id)) for at, it in workers},
             [task.key for task in dask_scheduler.unrunnable if is_own(task)],
             {task.key: [it.address for it in task.who_has or ()] for task in tasks},
         )

@@ -15,7 +15,8 @@ from .blocks import Blocks
 from .calls import Call, Look, Piece
 from .masters import Attempt, Session
 from .placing import GRACE, MOST_TRIES, Placing
-from .planner import Place, Planner, program_of
+from .pending import Place
+from .planner import Planner, program_of
 from .topology import Racks
 
 TimeOut = (TimeoutError, asyncio.TimeoutError)

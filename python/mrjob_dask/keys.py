@@ -9,7 +9,8 @@ from distributed import Client, Future
 
 from .blocks import Blocks
 from .calls import Copy, Look, Piece, as_it_is, bring, finish, hold, read_key, sizes
-from .planner import Place, nearest
+from .pending import Place
+from .planner import nearest
 
 AT_ONCE = 64  # so many copies are under way at most
 

@@ -21,10 +21,11 @@ from mrjob_plan.master import Master, MasterEnded
 from .ahead import Queues
 from .blocks import Splits
 from .calls import Look
-from .planner import BYTES, HOLDERS, SLOTS, Place, Planner, Wave, wave_of
+from .pending import Pending, Place
+from .planner import HOLDERS, SLOTS, Planner, unit_of, wave_of
 
 T = TypeVar("T")
-MOST_LINES = 60_000  # a session has room for 65,536 events
+MOST_LINES = 1_000_000  # a session has room for 1,048,576 events and 1,000,000 attempts
 
 
 @dataclass
@@ -48,15 +49,16 @@ class Attempt:
 class Waves:
     """Where no session fits: a planner is asked for each wave, or ahead for queues, and Dask places the parts."""
 
-    is_worn = False
+    is_worn, is_kept = False, True
 
     def __init__(self, planner: Planner, queues: Optional[Queues]) -> None:
         self.planner, self.queues, self.last = planner, queues, 0
 
-    def wave(self, wave: Wave, running: Mapping[str, Sequence[float]]) -> list[Start]:
+    def wave(
+        self, pending: Pending, slots: Mapping[str, int], running: Mapping[str, Sequence[float]]
+    ) -> list[Start]:
         """What starts now. A split may not start where it failed, unless it failed everywhere."""
-        splits = {split: it._replace(barred=[]) if wave.is_out(split) else it for split, it in wave.splits.items()}
-        seen = wave_of(wave.places, wave.slots, splits)
+        seen = wave_of(pending.places, slots, pending)
         starts = self.queues.starts(seen, running) if self.queues else self.planner.plan(seen).starts
         return [self.backup(split, worker) for split, worker in starts.items()]
 
@@ -68,7 +70,7 @@ class Waves:
         """Starts these parts, which are all that are open."""
         return [Reduce(0, part, "") for part in parts]
 
-    def kept(self, going: Sequence[Attempt], waiting: Sequence[Start]) -> set[int]:
+    def kept(self, going: Sequence[Attempt]) -> set[int]:
         """The attempts that run, and of each split that is done the first."""
         done = {it.split: it.told for it in reversed(going) if it.end == "done"}
         return {it.told for it in going if it.end in ("running", "done") and done.get(it.split, it.told) == it.told}
@@ -105,7 +107,7 @@ class Session:
         centres = {it: fit(f"c{number}-{it}") for number, it in enumerate(sorted({place.centre for place in racks}))}
         workers = {self.worker(at): Worker(racks[places[at]], min(SLOTS, seen.workers[at].slots)) for at in order}
         cluster = Cluster(workers, {rack: centres[place.centre] for place, rack in racks.items()})
-        unit = max(1, -(-max(splits.bytes.values(), default=0) // BYTES))
+        unit = unit_of(splits.bytes.values())
         blocks = {
             self.splits[it]: Declared(max(1, -(-size // unit)), [self.worker(at) for at in self.held[it]])
             for it, size in splits.bytes.items()  # (one of no bytes could be told to run nowhere in particular)
@@ -160,20 +162,21 @@ class Session:
             if attempt.end == "done":
                 self.tell(calls.done(it.attempt))
 
-    def wave(self, wave: Wave, running: Mapping[str, Sequence[float]]) -> list[Start]:
+    def wave(
+        self, pending: Pending, slots: Mapping[str, int], running: Mapping[str, Sequence[float]]
+    ) -> list[Start]:
         """What starts, if there is news. A split that failed everywhere may start again in a new session."""
-        for split, (_, holders, _) in wave.splits.items():
-            if holders != self.held[split]:
-                self.hold(split, holders)
-        outs = {split for split in wave.splits if wave.is_out(split)}
-        self.outs = outs if self.outs is None else self.outs
-        self.is_worn = self.is_worn or not outs <= self.outs
+        for split in pending.changed:
+            self.hold(split, pending.holders(split))
+        pending.changed.clear()
+        self.outs = {*pending.outs} if self.outs is None else self.outs
+        self.is_worn = self.is_worn or not pending.outs <= self.outs
         if not self.has_news:
             return []
         starts = [*map(self.start, self.tell(calls.wave()).starts)]
         self.has_news = False
         # (the master of a new session is told of failures as it comes to them)
-        again = [it for it in starts if it.worker in wave.splits[it.split].barred and not wave.is_out(it.split)]
+        again = [it for it in starts if it.worker in pending[it.split].barred]
         for it in again:
             self.tell(calls.fail(it.attempt))
         return [it for it in starts if it not in again]
@@ -218,12 +221,8 @@ class Session:
             for split in splits:
                 self.add(split, worker)
 
-    def kept(self, going: Sequence[Attempt], waiting: Sequence[Start]) -> Optional[set[int]]:
-        """The attempts that run or wait, and those whose outputs count; nothing where these are all, since no split has
-        two and none ended but as done."""
-        splits = [*(it.split for it in going), *(it.split for it in waiting)]
-        if self.is_kept and len({*splits}) == len(splits):
-            return None
+    def kept(self, going: Sequence[Attempt]) -> set[int]:
+        """The attempts that run or wait, and those whose outputs count."""
         self.is_kept = True
         work = self.tell(calls.open_work())
         return {it.attempt for it in (*work.starts, *work.backups, *self.tell(calls.outputs()))}

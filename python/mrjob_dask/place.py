@@ -68,7 +68,7 @@ class Tasks(Splits):
             for worker in look.holders.get(key, ()):
                 held[worker] = held.get(worker, 0) + self.sizes.get(key, 0)
         most = max(held.values(), default=0)
-        return [worker for worker, size in held.items() if size == most] or [*look.workers]
+        return [worker for worker, size in held.items() if size == most] or look.everyone
 
     def is_gone(self, split: str) -> bool:
         """Whether Dask gave up what a task takes."""

@@ -21,7 +21,8 @@ from .ahead import Pace, Queues
 from .blocks import Splits
 from .calls import Call, Look, look, start
 from .masters import Attempt, Session, Waves
-from .planner import Place, Planner, Split, Wave, distance, nearest, planner_of
+from .pending import Pending, Place, Split
+from .planner import Planner, distance, nearest, planner_of
 from .topology import Racks, Topology
 
 MOST_TRIES = 4  # so often a call may raise
@@ -39,9 +40,11 @@ class DeadlySplit(Exception):
 
 
 class Planned(NamedTuple):
-    """What a turn saw that began something, with the byte-distance and the attempts of what it began."""
+    """What a turn saw that began something: how many splits were pending, and the free slots of the workers that had
+    some; with the byte-distance and the attempts of what it began."""
 
-    wave: Wave
+    pending: int
+    slots: dict[str, int]
     cost: int
     attempts: list[Attempt]
 
@@ -71,7 +74,12 @@ class Placing:
         self.mark = f"-{uuid.uuid4().hex[:8]}-"
         self.key = f"mrjob-map{self.mark}"
         self.going: list[Attempt] = []  # attempts that run, or whose outputs count
+        self.running: list[Attempt] = []  # those that run
         self.maps: dict[str, Attempt] = {}  # of each split one of the attempts that go on
+        self.numbers = {split: number for number, split in enumerate(splits.bytes)}
+        self.pending = Pending({}, self.numbers)  # splits that no call was begun for, as they were seen last
+        self.unseen = [*splits.bytes]  # and those that were not seen yet
+        self.sees_all_at = 0.0  # when the holders of all pending splits are asked for again
         self.waiting: list[Start] = []  # the master's starts that wait for a thread
         self.late: list[Attempt] = []  # attempts that go on although their splits are done
         self.attempts: list[Attempt] = []
@@ -79,6 +87,9 @@ class Placing:
         self.slots_seen: dict[str, int] = {}  # the free slots in this turn, before it started anything
         self.copies = 0
         self.doubted: set[int] = set()  # those that did not end well, until another look tells why
+        self.processes: dict[str, str] = {}  # the workers' processes, as the attempts' ends were last told of by them
+        self.is_shaken = False  # whether an end is doubted
+        self.is_sure = False  # whether this turn looked at the attempts that were done too
         self.failed_on: dict[str, list[str]] = defaultdict(list)
         self.died_on: dict[str, list[str]] = defaultdict(list)
         self.bare_since: dict[str, float] = {}
@@ -102,29 +113,30 @@ class Placing:
     def turn(self) -> bool:
         """One turn: a look, while calls run; a pause, until one is done; then the master is told what ended, or starts
         a wave. Whether all calls are done."""
-        seen, places = self.look([it for it in self.splits.bytes if it not in self.maps])
+        seen, places = self.look_at_pending()
         if self.alive != {*places} or self.master.is_worn:
             seen, places = self.look([*self.splits.bytes])
+            self.pending = Pending(places, self.numbers)
+            self.unseen = [it for it in self.splits.bytes if it not in self.maps]
             if self.enter_workers(seen, places):
                 return False  # (copies were made, so the look is old)
-        splits = self.open_splits(seen)
+            self.enter_splits(self.unseen, seen)
         self.pause()
         if self.take_back(seen):
             self.news.set()
             return False  # (more splits wait, of whose holders the look does not tell)
         self.slots_seen = self.slots(seen)
-        self.start_wave(seen, Wave(places, self.slots_seen, splits))
+        self.start_wave(seen, self.slots_seen)
         self.start_seconds(seen, places)
         self.step(self)
         return self.is_done()
 
     def is_done(self) -> bool:
-        return len(self.maps) == len(self.splits.bytes) and all(it.end == "done" for it in self.going)
+        return self.is_sure and not self.running and len(self.maps) == len(self.splits.bytes)
 
     def pause(self) -> None:
         """Waits until a future is done, or for half a second, less where splits wait and none runs."""
-        is_idle = not self.is_done() and all(it.end == "done" for it in self.going)
-        self.news.wait(0.1 if is_idle else 0.5)
+        self.news.wait(0.1 if not self.running and not self.is_done() else 0.5)
         self.news.clear()
 
     def watch(self, future: Future) -> Future:
@@ -146,12 +158,31 @@ class Placing:
         self.names.update(names)
         return seen, self.topology.places(names)
 
+    def look_at_pending(self) -> tuple[Look, dict[str, Place]]:
+        """A look that tells the holders of pending splits: of those that are new or have none, and of all so seldom
+        that this takes a tenth of the time."""
+        began = time.monotonic()
+        sees_all = began >= self.sees_all_at
+        asked = [*self.unseen, *self.pending.bare, *(self.pending if sees_all else ())]
+        seen, places = self.look(asked)
+        if self.alive == {*places}:
+            self.enter_splits(asked, seen)
+        if sees_all:
+            now = time.monotonic()
+            self.sees_all_at = now + 9 * (now - began)
+        return seen, places
+
     def enter_workers(self, seen: Look, places: dict[str, Place]) -> bool:
         """Tells who came and who is gone, and lets splits get their holders back. Whether copies were made."""
         for it in self.alive - {*places}:
             self.master.die(it)
-        for it in {*places} - self.alive:
-            self.master.join(it, [split for split in self.splits.bytes if it in self.splits.holders(split, seen)])
+        held: dict[str, list[str]] = {it: [] for it in places if it not in self.alive}
+        for split in self.splits.bytes if held else ():
+            for it in self.splits.holders(split, seen):
+                if it in held:
+                    held[it].append(split)
+        for it, splits in held.items():
+            self.master.join(it, splits)
         self.alive = {*places}
         copies = self.splits.repair(seen, places)
         for copy in copies:
@@ -163,16 +194,20 @@ class Placing:
 
     def take_back(self, seen: Look) -> bool:
         """Tells how calls ended, and lets go of those that the master keeps no more. Whether more splits wait."""
-        began, done = len(self.maps), []
-        for attempt in self.going:
+        began, done, has_ended = len(self.maps), list[Attempt](), False
+        self.is_sure = self.may_be_lost(seen)
+        looked_at = self.going if self.is_sure else self.running
+        for attempt in looked_at:
             was, end = attempt.end, self.end_of(attempt, seen)
             if end == was:
                 continue
             if end != "done" and attempt.worker in seen.workers and attempt.number not in self.doubted:
                 self.doubted.add(attempt.number)
+                self.is_shaken = True
                 self.news.set()  # (a worker may have died since the look: another one tells)
                 continue
             attempt.end = end
+            has_ended = has_ended or end != "done"
             if end == "done":
                 self.pace.note(attempt.worker, time.monotonic() - attempt.began)
                 done.append(attempt)
@@ -182,9 +217,19 @@ class Placing:
                 self.died_on[attempt.split].append(self.names[attempt.worker])
         self.master.tell_done(done)
         self.refuse_deadly()
-        self.keep()
+        self.keep(has_ended)
+        self.running = [it for it in looked_at if it.end == "running"]
         self.let_go([it for it in self.late if it.future.status != "pending" or it.worker not in seen.workers])
         return len(self.maps) < began
+
+    def may_be_lost(self, seen: Look) -> bool:
+        """Whether calls that were done may be lost: where a process of a worker is gone, a task was set aside or an end
+        is doubted. As all seem to be done they are looked at too."""
+        processes = {at: it.process for at, it in seen.workers.items()}
+        is_last = not self.pending and all(it.future.status != "pending" for it in self.running)
+        is_so = self.is_shaken or bool(seen.aside) or processes != self.processes or is_last
+        self.processes, self.is_shaken = processes, False
+        return is_so
 
     def end_of(self, attempt: Attempt, seen: Look) -> str:
         """How an attempt stands. One that fails as its source dies is lost, as one is whose worker dies."""
@@ -219,16 +264,18 @@ class Placing:
             told = (f"{split} was running on {', '.join(workers)} as they died" for split, workers in deadly.items())
             raise DeadlySplit("; ".join(told))
 
-    def keep(self) -> None:
-        """Keeps the attempts that the master keeps, if not all. One whose split was done by another is late, and has
-        its slot until it ends."""
-        kept = self.master.kept(self.going, self.waiting)
-        if kept is None:
+    def keep(self, has_ended: bool) -> None:
+        """Keeps the attempts that the master keeps, if not all: those are all where each split has one, and none ended
+        but as done. One whose split was done by another is late, and has its slot until it ends."""
+        is_single = len(self.maps) == len(self.going) and not any(it.split in self.maps for it in self.waiting)
+        if is_single and self.master.is_kept and not has_ended:
             return
+        kept = self.master.kept(self.going)
         self.waiting = [it for it in self.waiting if it.attempt in kept]
         gone = [it for it in self.going if it.told not in kept]
         self.going = [it for it in self.going if it.told in kept]
-        self.maps = {it.split: it for it in self.going}
+        before, self.maps = self.maps, {it.split: it for it in self.going}
+        self.unseen += [split for split in before if split not in self.maps]
         done = {it.split for it in self.going if it.end == "done"}
         for it in gone:
             if it.end in ("running", "done"):
@@ -257,21 +304,20 @@ class Placing:
     def slots(self, seen: Look) -> dict[str, int]:
         """The free slots: threads less own maps that are open, counted here since the scheduler may not know them yet,
         and less what others run."""
-        mine = Counter(it.worker for it in (*self.going, *self.late) if it.end in ("running", "late"))
+        mine = Counter(it.worker for it in (*self.running, *self.late))
         return {at: max(0, it.threads - mine[at] - it.others) for at, it in seen.workers.items()}
 
-    def open_splits(self, seen: Look) -> dict[str, Split]:
-        """The splits that no call was begun for, with the workers on which they may not start again."""
-        splits = {}
-        for split, size in self.splits.bytes.items():
-            if split not in self.maps:
-                holders, failed = self.splits.holders(split, seen), self.failed_on.get(split, ())
-                barred = [at for at in seen.workers if self.names[at] in failed] if failed else []
-                splits[split] = Split(size, holders, barred)
-                if not holders:
-                    self.note_bare(split)
-        self.bare_since = {it: at for it, at in self.bare_since.items() if it in splits and not splits[it].holders}
-        return splits
+    def enter_splits(self, splits: Sequence[str], seen: Look) -> None:
+        """Enters pending splits as a look sees them, with the workers on which they may not start again."""
+        for split in splits:
+            holders, failed = self.splits.holders(split, seen), self.failed_on.get(split, ())
+            barred = [at for at in seen.workers if self.names[at] in failed] if failed else []
+            self.pending.put(split, Split(self.splits.bytes[split], holders, barred))
+            if holders:
+                self.bare_since.pop(split, None)
+            else:
+                self.note_bare(split)
+        self.unseen = []
 
     def note_bare(self, split: str) -> None:
         """A split is without a holder, which ends the job after the grace time, or at once where it is gone."""
@@ -281,43 +327,46 @@ class Placing:
             nodes = " or ".join(self.splits.nodes.get(split, ()))
             raise LostBlock(f"{split} has no living holder" + f": {nodes} is no worker's name or host" * (nodes != ""))
 
-    def start_wave(self, seen: Look, wave: Wave) -> None:
+    def start_wave(self, seen: Look, free: Mapping[str, int]) -> None:
         """Starts a wave, and begins what the master started where a thread is free. The rest waits, as for others'
         tasks or for a paused worker."""
-        if {*wave.splits} - {it.split for it in self.waiting}:
-            self.waiting += self.master.wave(wave, self.running(seen))
-        slots, starts = dict(wave.slots), []
+        number = len(self.pending)
+        if number > sum(it.split in self.pending for it in self.waiting) or self.pending.bare:
+            self.waiting += self.master.wave(self.pending, free, self.seconds_run(seen))
+        slots, starts = {**free}, []
         for it in [*self.waiting]:
             if slots.get(it.worker) and it.split in self.maps:
                 self.master.tell(calls.withdraw(it.attempt))  # (it was begun elsewhere meanwhile)
                 self.waiting.remove(it)
-            elif slots.get(it.worker) and wave.splits[it.split].holders:
+            elif slots.get(it.worker) and it.split in self.pending:
                 slots[it.worker] -= 1
                 self.waiting.remove(it)
                 starts.append(it)
         if starts:
-            held = {it.split: wave.splits[it.split].holders for it in starts}
-            attempts = self.begin(wave.places, starts, held, len(self.waves) + 1)
-            self.waves.append(Planned(wave, sum(self.splits.bytes[it.split] * it.steps for it in attempts), attempts))
+            held = {it.split: self.pending[it.split].holders for it in starts}
+            attempts = self.begin(self.pending.places, starts, held, len(self.waves) + 1)
+            cost = sum(self.splits.bytes[it.split] * it.steps for it in attempts)
+            self.waves.append(Planned(number, {at: slots for at, slots in free.items() if slots}, cost, attempts))
 
-    def running(self, seen: Look) -> dict[str, list[float]]:
+    def seconds_run(self, seen: Look) -> dict[str, list[float]]:
         """Of each worker that is not paused for how many seconds its calls have been running."""
-        now, running = time.monotonic(), defaultdict(list)
-        for it in (*self.going, *self.late):
-            if it.end in ("running", "late") and seen.workers[it.worker].threads:
-                running[it.worker].append(now - it.began)
-        return running
+        now, seconds = time.monotonic(), defaultdict(list)
+        for it in (*self.running, *self.late):
+            if seen.workers[it.worker].threads:
+                seconds[it.worker].append(now - it.began)
+        return seconds
 
     def start_seconds(self, seen: Look, places: Mapping[str, Place]) -> None:
         """Once no split is pending, starts a second attempt of each slow call, and of each that waits for a thread: on
         a worker with a free slot that is nearest to another holder, but for its own and those on which it failed."""
         waits, slots = {it.split: [it.worker] for it in self.waiting}, self.slots(seen)
-        if not any(slots.values()) or self.splits.bytes.keys() - {*self.maps, *waits}:
+        is_pending = len(self.pending) > len(waits) or not {*self.pending, *self.pending.bare} <= waits.keys()
+        if is_pending or not any(slots.values()):
             return
         avoid = {split: at for split, at in waits.items() if split not in self.maps}
         if self.backup is not None:
             late_at = time.monotonic() - self.backup * self.pace.mean(float("inf") if self.backup else 0)
-            once = [split for split, number in Counter(it.split for it in self.going).items() if number == 1]
+            once = [split for split, number in Counter(it.split for it in self.running).items() if number == 1]
             slow = [self.maps[it] for it in once if it not in waits and self.maps[it].began <= late_at]
             avoid.update((it.split, [it.worker, it.source]) for it in slow if it.end == "running")
         now = self.look([*avoid])[0] if avoid else seen
@@ -350,5 +399,8 @@ class Placing:
         ]
         self.attempts += attempts
         self.going += attempts
+        self.running += attempts
         self.maps.update((it.split, it) for it in attempts)
+        for it in attempts:
+            self.pending.drop(it.split)
         return attempts

@@ -9,16 +9,18 @@ import shlex
 import shutil
 import subprocess
 from collections import Counter
+from itertools import islice
 from pathlib import Path
-from typing import Mapping, NamedTuple, Optional
+from typing import Iterable, Mapping, NamedTuple, Optional
 
 import mrjob_plan
 import mrjob_plan.library
 
+from .pending import Pending, Place, Split
+
 # What a wave may have at most (docs/MODEL.md).
 WORKERS, RACKS, CENTRES, HOLDERS, SLOTS, BYTES = 32_768, 4096, 256, 16, 255, 8_589_934_592
-# And of how many splits one is asked here, since all of them are gone through for each wave.
-SPLITS = 1024
+SPLITS = 131_072
 
 
 class Unfit(Exception):
@@ -29,31 +31,12 @@ class NoPlanner(Unfit):
     """There is no library, or no program of that name."""
 
 
-class Place(NamedTuple):
-    """Where a worker stands; two racks are the same where both words are."""
-
-    rack: str
-    centre: str = ""
-
-
-class Split(NamedTuple):
-    """The bytes of a pending split, the workers that hold it, and those on which it may not start."""
-
-    bytes: int
-    holders: list[str]
-    barred: list[str]
-
-
 class Wave(NamedTuple):
     """What one round of starts can see: of each worker its place and its free slots, and the pending splits."""
 
     places: dict[str, Place]
     slots: dict[str, int]
     splits: dict[str, Split]
-
-    def is_out(self, split: str) -> bool:
-        """Whether a split failed on every worker."""
-        return 0 < len(self.places) <= len(self.splits[split].barred)
 
 
 class Plan(NamedTuple):
@@ -77,7 +60,7 @@ def nearest(places: Mapping[str, Place], worker: str, holders: list[str]) -> str
     return min(holders, key=lambda it: (distance(places, it, worker), it))
 
 
-def wave_of(places: dict[str, Place], slots: dict[str, int], splits: dict[str, Split]) -> Wave:
+def wave_of(places: dict[str, Place], slots: Mapping[str, int], splits: dict[str, Split]) -> Wave:
     """A wave within the limits: the first splits that have holders, as many as it may have."""
     racks, centres = {*places.values()}, {place.centre for place in places.values()}
     for kind, number, most in (
@@ -86,15 +69,26 @@ def wave_of(places: dict[str, Place], slots: dict[str, int], splits: dict[str, S
         if number > most:
             raise Unfit(f"there are {number} {kind}, and a wave has at most {most}")
     free = {worker: min(SLOTS, slots.get(worker, 0)) for worker in places}
-    held = [name for name, split in splits.items() if split.holders][:SPLITS]
-    return Wave(places, free, {name: within_holders(splits[name], free) for name in held})
+    # (of pending splits those that have to be known are taken as they are planned)
+    return Wave(places, free, splits if isinstance(splits, Pending) else first_splits(splits, free))
 
 
-def within_holders(split: Split, free: dict[str, int]) -> Split:
+def first_splits(splits: Mapping[str, Split], free: Mapping[str, int]) -> dict[str, Split]:
+    """The first splits that have holders, as many as a wave may have."""
+    held = ((name, split) for name, split in splits.items() if split.holders)
+    return {name: within_holders(split, free) for name, split in islice(held, SPLITS)}
+
+
+def within_holders(split: Split, free: Mapping[str, int]) -> Split:
     """The split with as many holders as it may have, those that have free slots first."""
     if len(split.holders) <= HOLDERS:
         return split
     return split._replace(holders=sorted(split.holders, key=lambda it: not free[it])[:HOLDERS])
+
+
+def unit_of(sizes: Iterable[int]) -> int:
+    """How many bytes a planner counts as one, so that none of these sizes is too great for it."""
+    return max(1, -(-max(sizes, default=0) // BYTES))
 
 
 HOW_TO_BUILD = "in a checkout of mrjob `make quick` builds bin/mrjob without its proofs, `make` with them"
@@ -105,9 +99,13 @@ class Planner:
 
     def plan(self, wave: Wave) -> Plan:
         """A best plan of a wave; the empty one, without a question, where nothing can start."""
-        if not wave.splits or not any(wave.slots.values()):
+        if not any(wave.slots.values()):
             return Plan({}, 0, 1)
-        unit = max(1, -(-max(split.bytes for split in wave.splits.values()) // BYTES))
+        if isinstance(wave.splits, Pending):
+            wave = wave._replace(splits=first_splits(wave.splits.candidates(wave.slots), wave.slots))
+        if not wave.splits:
+            return Plan({}, 0, 1)
+        unit = unit_of(split.bytes for split in wave.splits.values())
         units = {name: -(-split.bytes // unit) for name, split in wave.splits.items()}
         starts, cost = self.ask(wave, units)
         steps = {
@@ -131,9 +129,10 @@ class RarestFirst(Planner):
         self.planner = planner
 
     def plan(self, wave: Wave) -> Plan:
-        load = Counter(holder for split in wave.splits.values() for holder in split.holders)
-        order = sorted(wave.splits, key=lambda it: -min(load[holder] for holder in wave.splits[it].holders))
-        return self.planner.plan(wave._replace(splits={split: wave.splits[split] for split in order}))
+        splits = first_splits(wave.splits, wave.slots)
+        load = Counter(holder for split in splits.values() for holder in split.holders)
+        order = sorted(splits, key=lambda it: -min(load[holder] for holder in splits[it].holders))
+        return self.planner.plan(wave._replace(splits={split: splits[split] for split in order}))
 
 
 class Command(Planner):

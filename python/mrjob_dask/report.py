@@ -44,8 +44,7 @@ def report_lines(job: Job) -> list[str]:
     """A line for each wave, for each start, and for the whole."""
     name = job.names
     rows: list[dict[str, Any]] = [
-        dict(wave=number, pending=len(it.wave.splits), slots=sum(it.wave.slots.values()), starts=len(it.attempts),
-             cost=it.cost)
+        dict(wave=number, pending=it.pending, slots=sum(it.slots.values()), starts=len(it.attempts), cost=it.cost)
         for number, it in enumerate(job.waves, 1)
     ]
     rows += [

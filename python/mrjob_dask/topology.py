@@ -5,7 +5,8 @@ import warnings
 from ipaddress import ip_address, ip_network
 from typing import Any, Callable, Mapping, Union
 
-from .planner import Place, Unfit
+from .pending import Place
+from .planner import Unfit
 
 # A rack alone, or with its data centre.
 Rack = Union[str, tuple[str, str]]
