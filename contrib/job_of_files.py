@@ -18,10 +18,10 @@ import re
 import signal
 import sys
 
-# The most of each setting. A job has a thread for each worker, so fewer of these.
-MOST = {"racks": 32, "workers": 256, "slots": 16, "centres": 8, "replicas": 8, "block": 67_108_864, "parts": 64}
-MOST_WORKERS_OF_A_JOB = 32
-MOST_SPLITS, MOST_DOCUMENTS, MOST_TEXT, MOST_OF_A_NAME = 131_072, 1_048_576, 16_777_216, 64
+# The most of each setting in version 3. A job has a thread for each worker, so fewer of these.
+MOST = {"racks": 4096, "workers": 32_768, "slots": 255, "centres": 256, "replicas": 16, "block": 8_589_934_592}
+MOST["parts"], MOST_TARGET, MOST_WORKERS_OF_A_JOB = 64, 8, 1024
+MOST_SPLITS, MOST_DOCUMENTS, MOST_TEXT, MOST_OF_A_NAME = 131_072, 1_048_576, 268_435_456, 64
 PRINTABLE = bytes(range(32, 127))
 TO_SPACES = bytes(byte if byte in PRINTABLE else 32 for byte in range(256))
 
@@ -136,6 +136,8 @@ class Cluster:
         self.slots, self.centres = slots, [f"centre-{c + 1}" for c in range(centres)]
         self.racks, self.workers = [f"rack-{r + 1}" for r in range(racks)], [f"worker-{w + 1}" for w in range(workers)]
         self.rack_of = [w * racks // workers for w in range(workers)]
+        # (the workers of a rack stand side by side: from the first of them up to this one)
+        self.span_of = [(-(-r * workers // racks), -(-(r + 1) * workers // racks)) for r in range(racks)]
 
     def lines(self):
         """The lines that declare it."""
@@ -151,17 +153,30 @@ class Cluster:
         # (at most so many in a rack, so that with several racks not all stand in one)
         most = (count - 1) // len(self.racks) + 2
         most = count if len(self.racks) == 1 else most - (most == count)
-        held = []
+        held, whole = [], (0, len(self.workers))
         while len(held) < count:
             racks = [self.rack_of[w] for w in held]
-            free = [w for w, r in enumerate(self.rack_of) if w not in held and racks.count(r) < most]
-            wanted = free
+            full = {r for r in racks if racks.count(r) >= most}
+            barred = [self.span_of[r] for r in full] + [(w, w + 1) for w, r in zip(held, racks) if r not in full]
+            wanted = None
             if len(held) == 1:
-                wanted = [w for w in free if self.rack_of[w] != racks[0]]
-            elif len(held) == 2:
-                wanted = [w for w in free if self.rack_of[w] == racks[1] != racks[0]]
-            held.append(rnd.choice(wanted or free))
+                wanted = pick(whole, [self.span_of[racks[0]]], rnd)
+            elif len(held) == 2 and racks[0] != racks[1] and racks[1] not in full:
+                wanted = pick(self.span_of[racks[1]], [(held[1], held[1] + 1)], rnd)
+            held.append(pick(whole, barred, rnd) if wanted is None else wanted)
         return [self.workers[w] for w in held]
+
+
+def pick(span, barred, rnd):
+    """Any worker of a span that is in none of these spans below it, which have nothing in common; none if there is
+    none."""
+    count = span[1] - span[0] - sum(end - start for start, end in barred)
+    if count == 0:
+        return None
+    at = span[0] + rnd.randrange(count)
+    for start, end in sorted(barred):
+        at += (end - start) * (start <= at)
+    return at
 
 
 def commands(splits, parts, slots):
@@ -176,23 +191,25 @@ def commands(splits, parts, slots):
 
 
 def text_of(given, cluster, documents, splits):
-    """The bytes of the job or script."""
+    """The bytes of the job or script, in pieces."""
     rnd = random.Random(given.seed)
     lines = [f"{'script' if given.script else 'job'} 3", *cluster.lines()]
-    lines += [f"parts {given.parts}", f"target {given.replicas}"]
+    lines += [f"parts {given.parts}", f"target {min(given.replicas, MOST_TARGET)}"]
     for number, held in enumerate(splits, 1):
         size = sum(len(documents.texts[it]) for it in held)
         lines.append(" ".join([f"split split-{number} {size}", *cluster.place(given.replicas, rnd)]))
-    lines = [line.encode() for line in lines]
+    pieces = ["".join(f"{line}\n" for line in lines).encode()]
     for number, held in enumerate(splits, 1):
-        lines += [f"doc {documents.names[it]} split-{number} ".encode() + documents.texts[it] for it in held]
+        for it in held:
+            pieces += [f"doc {documents.names[it]} split-{number} ".encode(), documents.texts[it], b"\n"]
     if given.script:
         played = commands(len(splits), given.parts, given.workers * given.slots)
-        lines += [b"begin", *(line.encode() for line in played)]
-    text = b"\n".join([*lines, b"end", b""])
-    if len(text) > MOST_TEXT:
-        raise Limit(f"the text has {len(text):,} bytes, past {MOST_TEXT:,}")
-    return text
+        pieces.append("".join(f"{line}\n" for line in ["begin", *played]).encode())
+    pieces.append(b"end\n")
+    size = sum(map(len, pieces))
+    if size > MOST_TEXT:
+        raise Limit(f"the text has {size:,} bytes, past {MOST_TEXT:,}")
+    return pieces
 
 
 def test_settings(given):
@@ -201,7 +218,8 @@ def test_settings(given):
         if not 1 <= getattr(given, name) <= most:
             raise Limit(f"--{name} {getattr(given, name)}: there may be 1 to {most:,}")
     if not given.script and given.workers > MOST_WORKERS_OF_A_JOB:
-        raise Limit(f"--workers {given.workers}: a job has at most {MOST_WORKERS_OF_A_JOB}, a script {MOST['workers']}")
+        most = f"a job has at most {MOST_WORKERS_OF_A_JOB:,}, a script {MOST['workers']:,}"
+        raise Limit(f"--workers {given.workers}: {most}")
     if given.racks > given.workers:
         raise Limit(f"--racks {given.racks}: each rack has a worker, and there are {given.workers}")
     if given.centres > given.racks:
@@ -239,7 +257,7 @@ def asked():
 def main():
     given = asked()
     try:
-        text, documents, said = made(given)
+        pieces, documents, said = made(given)
         if given.names:
             with open(given.names, "w", encoding="utf-8", errors="surrogateescape") as file:
                 file.writelines(f"{name}\t{in_a_line(path)}\n" for name, path in zip(documents.names, documents.paths))
@@ -249,7 +267,7 @@ def main():
         return 1
     for sentence in said:
         print(f"job_of_files.py: {sentence}", file=sys.stderr)
-    sys.stdout.buffer.write(text)
+    sys.stdout.buffer.writelines(pieces)
     return 0
 
 

@@ -286,6 +286,7 @@ SETTINGS = [
     ["--racks", "1", "--workers", "1", "--slots", "1", "--replicas", "8", "--block", "100"],
     ["--racks", "6", "--workers", "12", "--centres", "3", "--parts", "64", "--block", "130"],
     ["--racks", "32", "--workers", "32", "--slots", "16", "--centres", "8", "--parts", "1", "--seed", "7"],
+    ["--racks", "33", "--workers", "40", "--slots", "17", "--centres", "9", "--replicas", "16", "--block", "100"],
     ["--only", "*.txt", "--replicas", "1"],
 ]
 
@@ -322,6 +323,20 @@ def indexed(count, program, room):
     paths = [line.split("\t")[1] for line in names.read_text().splitlines() if line[0] != "-"]
     files = [re.sub(rb"[^ -~]", b" ", Path(path).read_bytes()) for path in paths]
     count.expect("each byte of a file stands in its document, or a space for it", texts, files)
+
+
+def large(count, program, room):
+    """The index of a job past what versions 1 and 2 take: a text of 18 MB, and 2,000 splits."""
+    folder, names = room / "large", room / "names"
+    folder.mkdir()
+    words = ["word" + "".join(chr(97 + int(digit)) for digit in str(number)) for number in range(1000)]
+    for number in range(2000):
+        some = random.Random(number).choices(words, k=1200)
+        (folder / f"{number:04}").write_text(" ".join(some))
+    job = script("job_of_files.py", folder, "--block", "1", "--names", names)[0]
+    is_past = len(job) > 16_777_216 and job.count(b"\nsplit ") == 2000
+    count.expect("the job of large files is past version 2", is_past)
+    count.expect("run of a job of large files", said([program, "run"], job), (index_of(names.read_text()).encode(), "", 0))
 
 
 def misplaced(lines, racks, workers, replicas):
@@ -364,8 +379,9 @@ def refused(count, room):
     """Past a limit nothing is written, and a sentence says which."""
     folder = lambda name, files: [room / name, *((room / name / at, text) for at, text in files)]
     rooms = [
-        folder("bytes", [("one", "x" * 9_000_000), ("two", "x" * 7_777_217)]),
-        folder("text", [("one", "x" * 9_000_000), ("two", "x" * 7_777_216)]),
+        folder("bytes", [("one", "x" * 200_000_000), ("two", "x" * 68_435_457)]),
+        folder("text", [("one", "x" * 200_000_000), ("two", "x" * 68_435_456)]),
+        folder("fits", [("one", "x" * 200_000_000), ("two", "x" * 68_435_268)]),
         folder("empty", []),
     ]
     for path, *files in rooms:
@@ -373,16 +389,16 @@ def refused(count, room):
         for file, text in files:
             file.write_text(text)
     cases = [
-        (["bytes"], "the files have more than 16,777,216 bytes, the most of a text"),
-        (["text", "--racks", 1, "--workers", 1], "the text has 16,777,401 bytes, past 16,777,216"),
+        (["bytes"], "the files have more than 268,435,456 bytes, the most of a text"),
+        (["text", "--racks", 1, "--workers", 1], "the text has 268,435,644 bytes, past 268,435,456"),
         (["empty"], "no file was taken"),
         (["none"], f"{room}/none is no folder"),
-        (["empty", "--workers", "33"], "--workers 33: a job has at most 32, a script 256"),
-        (["empty", "--workers", "257", "--script"], "--workers 257: there may be 1 to 256"),
+        (["empty", "--workers", "1025"], "--workers 1025: a job has at most 1,024, a script 32,768"),
+        (["empty", "--workers", "32769", "--script"], "--workers 32769: there may be 1 to 32,768"),
         (["empty", "--workers", "3"], "--racks 4: each rack has a worker, and there are 3"),
         (["empty", "--centres", "5"], "--centres 5: each centre has a rack, and there are 4"),
     ]
-    most = {"racks": 32, "slots": 16, "centres": 8, "replicas": 8, "block": 67_108_864, "parts": 64}
+    most = {"racks": 4096, "slots": 255, "centres": 256, "replicas": 16, "block": 8_589_934_592, "parts": 64}
     for name, number in most.items():
         for past in (0, number + 1):
             cases.append((["empty", f"--{name}", past], f"--{name} {past}: there may be 1 to {number:,}"))
@@ -391,6 +407,8 @@ def refused(count, room):
         lines = answer[1].splitlines()
         count.expect(f"job_of_files.py says: {sentence}", (answer[0], lines, answer[2]),
                      (b"", [f"job_of_files.py: {sentence}"], 1))
+    written = script("job_of_files.py", room / "fits", "--racks", 1, "--workers", 1)
+    count.expect("job_of_files.py writes a text of 268,435,456 bytes", (len(written[0]), written[2]), (268_435_456, 0))
     documents = job_of_files.Documents([])
     documents.texts = [b"x"] * 131_073
     count.expect("65,537 splits are not too many", len(documents.splits(2)), 65_537)
@@ -651,6 +669,7 @@ def main():
             started(count, program)
             flows(count, program)
             indexed(count, program, Path(room))
+            large(count, program, Path(room))
             many_drawn(count, program)
             installed(count, program, Path(room))
             shown(count, program, Path(room))
