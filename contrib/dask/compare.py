@@ -209,8 +209,9 @@ def table(planner: Planner, runs: int, sorts: list[str]) -> None:
 
 
 def many(planner: Planner, runs: int) -> None:
-    """The seconds of jobs by Dask, by waves and ahead, in turn, of 1,000 maps of half a second that read nothing: on the
-    clock, and of processors in the client and its planner."""
+    """Jobs by Dask, by waves and ahead, in turn, of 1,000 maps of half a second that read nothing: the seconds on the
+    clock, of the client's processor time, and of that with its planner's. Other processes make the client dearer and
+    never cheaper, so of these the least of all runs is told, and of the clock the median."""
     racks, per_rack, count = 8, 8, 1000
     with Cluster(racks, per_rack, per_process=16) as here:
         places, rnd = {name: place_of(name) for name in here.addresses()}, Random(1)
@@ -221,8 +222,8 @@ def many(planner: Planner, runs: int) -> None:
             return [b""]
 
         nothing = lambda *_: b""
-        seconds: dict[str, list[tuple[float, float]]] = {"Dask": [], "waves": [], "plan ahead": []}
-        spent = lambda: (time.perf_counter(), sum(os.times()[:4]))
+        seconds: dict[str, list[tuple[float, ...]]] = {"Dask": [], "waves": [], "plan ahead": []}
+        spent = lambda: (time.perf_counter(), time.process_time(), sum(os.times()[:4]))
         for _ in range(runs):
             for way in seconds:
                 began = spent()
@@ -231,13 +232,15 @@ def many(planner: Planner, runs: int) -> None:
                 job = kind(here.client, blocks, Work(mapped, len, 1), place_of, planner, ahead=is_ahead)
                 if job.run() != [count]:
                     raise AssertionError("a map is missing")
-                took, used = (now - then for now, then in zip(spent(), began))
-                seconds[way].append((took, used))
-                print(f"{way}: {took:.1f} s, {used:.2f} s of processors, load {os.getloadavg()[0]:.1f}", flush=True)
-        medians = {way: [median(its) for its in zip(*of_way)] for way, of_way in seconds.items()}
+                took = tuple(now - then for now, then in zip(spent(), began))
+                seconds[way].append(took)
+                said = "{:.1f} s, {:.2f} s of the client, {:.2f} s with its planner".format(*took)
+                print(f"{way}: {said}, load {os.getloadavg()[0]:.1f}", flush=True)
+        told = {way: [of(its) for of, its in zip((median, min, min), zip(*ran))] for way, ran in seconds.items()}
         for way in ("waves", "plan ahead"):
-            clock, processors = (one / other for one, other in zip(medians[way], medians["Dask"]))
-            print(f"{way}: {clock:.2f} of Dask's time, {processors:.2f} of its client's")
+            parts = [one / other for one, other in zip(told[way], told["Dask"])]
+            said = "{:.2f} of Dask's time, {:.2f} of its client's, {:.2f} with the planner".format(*parts)
+            print(f"{way}: {said}")
 
 
 class Unread(ByDask):

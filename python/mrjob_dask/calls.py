@@ -8,11 +8,15 @@ from __future__ import annotations
 import asyncio
 import time
 import uuid
-from typing import Any, Callable, Iterable, Mapping, NamedTuple, Sequence
+from functools import cached_property, lru_cache
+from threading import Lock
+from typing import Any, Callable, Iterable, Mapping, NamedTuple, Sequence, Union
 
 import cloudpickle
+from dask import config
 from dask.highlevelgraph import HighLevelGraph, MaterializedLayer
 from distributed import Client, Future, get_worker, wait
+from distributed.client import done_callback
 from distributed.core import clean_exception
 from distributed.utils import offload, sync
 from distributed.worker import get_data_from_worker
@@ -39,10 +43,15 @@ class Look:
 
     def __init__(self, workers: dict[str, Seen], aside: list[str], holders: dict[str, list[str]]) -> None:
         self.workers, self.aside, self.holders, self.everyone = workers, {*aside}, holders, [*workers]
-        self.on: dict[str, list[str]] = {}
-        for address, worker in workers.items():
+
+    @cached_property
+    def on(self) -> dict[str, list[str]]:
+        """The workers by their names, hosts and addresses."""
+        on: dict[str, list[str]] = {}
+        for address, worker in self.workers.items():
             for node in {worker.name, host_of(address), address}:
-                self.on.setdefault(node, []).append(address)
+                on.setdefault(node, []).append(address)
+        return on
 
     def at(self, nodes: Iterable[str]) -> list[str]:
         """The workers of these names, hosts or addresses."""
@@ -54,29 +63,43 @@ def named(nodes: Any) -> list[str]:
     return [str(nodes)] if isinstance(nodes, (str, int)) else [*map(str, nodes)]
 
 
-def at_scheduler(client: Client, function: Callable[..., Any], *given: Any) -> Any:
+def at_scheduler(client: Client, function: Union[Callable[..., Any], Packed], *given: Any) -> Any:
     """What a function gives that the scheduler calls."""
     if client.asynchronous:
         raise TypeError("the client is asynchronous, and one that is not is wanted")
     return client.run_on_scheduler(function, *given)
 
 
+class Packed:
+    """A function that is pickled once for all calls."""
+
+    def __init__(self, function: Callable[..., Any]) -> None:
+        self.words = cloudpickle.dumps(function)
+
+    def __reduce__(self) -> tuple[Callable[..., Any], tuple[bytes]]:
+        return cloudpickle.loads, (self.words,)
+
+
+packed = lru_cache(maxsize=None)(Packed)
+
+
+def seen_at_scheduler(mark: str, keys: list[str], dask_scheduler: Any) -> Any:
+    """What a look is made of."""
+    is_own = lambda task: bool(mark) and str(task.key).startswith(mark)
+    threads = lambda worker: worker.nthreads if worker.status.name == "running" else 0
+    others = lambda worker: sum(not is_own(task) for task in worker.processing)
+    workers = dask_scheduler.workers.items()
+    tasks = [dask_scheduler.tasks[key] for key in keys if key in dask_scheduler.tasks]
+    return (
+        {at: (str(it.name), it.nthreads, threads(it), others(it), str(it.server_id)) for at, it in workers},
+        [task.key for task in dask_scheduler.unrunnable if is_own(task)],
+        {task.key: [it.address for it in task.who_has or ()] for task in tasks},
+    )
+
+
 def look(client: Client, mark: str = "", keys: Sequence[str] = ()) -> Look:
     """One undivided look at the scheduler. A mark is what the keys of one job begin with."""
-
-    def seen(mark: str, keys: list[str], dask_scheduler: Any) -> Any:
-        is_own = lambda task: bool(mark) and str(task.key).startswith(mark)
-        threads = lambda worker: worker.nthreads if worker.status.name == "running" else 0
-        others = lambda worker: sum(not is_own(task) for task in worker.processing)
-        workers = dask_scheduler.workers.items()
-        tasks = [dask_scheduler.tasks[key] for key in keys if key in dask_scheduler.tasks]
-        return (
-            {at: (str(it.name), it.nthreads, threads(it), others(it), str(it.server_id)) for at, it in workers},
-            [task.key for task in dask_scheduler.unrunnable if is_own(task)],
-            {task.key: [it.address for it in task.who_has or ()] for task in tasks},
-        )
-
-    workers, aside, holders = at_scheduler(client, seen, mark, [*keys])
+    workers, aside, holders = at_scheduler(client, packed(seen_at_scheduler), mark, [*keys])
     return Look({address: Seen(*it) for address, it in workers.items()}, aside, holders)
 
 
@@ -88,12 +111,38 @@ class Call(NamedTuple):
     arguments: list[Any]
 
 
+# Dask keeps the source of whoever sends a graph, for its dashboard, and would parse ours each time.
+NO_SOURCE = {"distributed.diagnostics.computations.ignore-modules": [""]}
+SENDING = Lock()  # (of two threads that set and restore it the last one could restore what the other set)
+
+
 def start(client: Client, calls: Mapping[str, Call]) -> list[Future]:
     """Starts calls by their keys, in one message, each on its worker and nowhere else."""
     tasks = {key: (it.function, *it.arguments) for key, it in calls.items()}
     layer = MaterializedLayer(tasks, annotations={"workers": lambda key: [calls[key].worker]})
-    futures: list[Future] = client.get(HighLevelGraph({"mrjob": layer}, {"mrjob": set()}), [*calls], sync=False)
+    with SENDING, config.set(NO_SOURCE):
+        futures: list[Future] = client.get(HighLevelGraph({"mrjob": layer}, {"mrjob": set()}), [*calls], sync=False)
     return futures
+
+
+def in_loop(client: Client, call: Callable[[Future], Any], futures: Sequence[Future]) -> None:
+    """Calls something with each of these futures in the client's loop, which is woken once for all of them."""
+
+    def called() -> None:
+        for it in futures:
+            call(it)
+
+    assert client.loop is not None
+    client.loop.add_callback(called)
+
+
+def tell_ends(client: Client, futures: Sequence[Future], tell: Callable[[Future], None]) -> None:
+    """Has this called in the client's loop as each of these futures ends."""
+    in_loop(client, lambda it: asyncio.ensure_future(done_callback(it, tell)), futures)
+
+
+def release(client: Client, futures: Sequence[Future]) -> None:
+    in_loop(client, Future.release, futures)
 
 
 def finish(client: Client, futures: Sequence[Future]) -> None:

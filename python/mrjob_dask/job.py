@@ -12,7 +12,7 @@ from mrjob_plan.calls import Ignored
 from mrjob_plan.master import NoSession
 
 from .blocks import Blocks
-from .calls import Call, Look, Piece
+from .calls import Call, Look, Piece, release
 from .masters import Attempt, Session
 from .placing import GRACE, MOST_TRIES, Placing
 from .pending import Place
@@ -180,7 +180,9 @@ class Job(Placing):
                 reduce_task(self.work), outputs[at * len(maps) : (at + 1) * len(maps)],
                 key=f"{self.reduce_key}{start.part}-{self.rounds}", **self.where(start.worker),
             )
-            self.reduces[start.part] = start.attempt, self.watch(future)
+            self.reduces[start.part] = start.attempt, future
+        self.watch([self.reduces[it.part][1] for it in starts])
+        release(self.client, outputs)
 
     def collect(self) -> None:
         """Takes the parts that are done, so that they are not made again whoever dies."""

@@ -35,11 +35,12 @@ class Tree:
         self.places = places
         self.at: dict[Node, list[tuple[int, int]]] = defaultdict(list)
 
-    def nodes(self, holders: Sequence[str]) -> Iterator[Node]:
+    def nodes(self, holders: Sequence[str]) -> set[Node]:
+        """Those with a holder below."""
         if len({*holders}) == len(self.places):
-            return iter([EVERYWHERE])
+            return {EVERYWHERE}
         racks = {self.places[it] for it in holders}
-        return iter([*{*holders}, *racks, *{(it.centre,) for it in racks}, ()])
+        return {*holders, *racks, *((it.centre,) for it in racks), ()}
 
     def fill(self, splits: Iterable[tuple[int, int, Sequence[str]]]) -> None:
         """Enters splits: the size, the number and the holders of each."""
@@ -65,7 +66,7 @@ class Tree:
             return ((steps * size, number) for size, number in self.at.get(node, ()))
 
         rack = self.places[worker]
-        nodes = ((EVERYWHERE, 0), (worker, 0), (rack, 2), ((rack.centre,), 4), ((), 6))
+        nodes: list[tuple[Node, int]] = [(EVERYWHERE, 0), (worker, 0), (rack, 2), ((rack.centre,), 4), ((), 6)]
         return (number for _, number in merge(*(priced(*it) for it in nodes)))
 
 

@@ -19,7 +19,7 @@ from mrjob_plan.calls import Ignored, Start
 
 from .ahead import Pace, Queues
 from .blocks import Splits
-from .calls import Call, Look, look, start
+from .calls import Call, Look, look, release, start, tell_ends
 from .masters import Attempt, Session, Waves
 from .pending import Pending, Place, Split
 from .planner import Planner, distance, nearest, planner_of
@@ -27,6 +27,7 @@ from .topology import Racks, Topology
 
 MOST_TRIES = 4  # so often a call may raise
 MOST_DEATHS = 3  # and on so many workers it may be running as they die
+GATHER = 0.005  # seconds that are waited for more ends, once a call has ended: those that began together end so
 GRACE = 30.0  # seconds for which a split may be without a holder, as while a nanny restarts its worker
 ENDS = {"failed": calls.fail, "lost": calls.withdraw}  # as the master is told of them
 
@@ -136,14 +137,14 @@ class Placing:
 
     def pause(self) -> None:
         """Waits until a future is done, or for half a second, less where splits wait and none runs."""
-        self.news.wait(0.1 if not self.running and not self.is_done() else 0.5)
+        if self.news.wait(0.1 if not self.running and not self.is_done() else 0.5):
+            time.sleep(GATHER)
         self.news.clear()
 
-    def watch(self, future: Future) -> Future:
-        """Lets a pause end as a future is done."""
+    def watch(self, futures: Sequence[Future]) -> None:
+        """Lets a pause end as one of these futures is done."""
         news = self.news
-        future.add_done_callback(lambda _: news.set())
-        return future
+        tell_ends(self.client, futures, lambda _: news.set())
 
     def call(self, split: str, worker: str, source: str) -> Call:
         """What is called for a split."""
@@ -159,17 +160,16 @@ class Placing:
         return seen, self.topology.places(names)
 
     def look_at_pending(self) -> tuple[Look, dict[str, Place]]:
-        """A look that tells the holders of pending splits: of those that are new or have none, and of all so seldom
-        that this takes a tenth of the time."""
+        """A look that tells the holders of pending splits: of those that are new or have none, and where no nodes are
+        named of all, so seldom that this takes a tenth of the time."""
         began = time.monotonic()
-        sees_all = began >= self.sees_all_at
+        sees_all = not self.splits.nodes and began >= self.sees_all_at
         asked = [*self.unseen, *self.pending.bare, *(self.pending if sees_all else ())]
         seen, places = self.look(asked)
         if self.alive == {*places}:
             self.enter_splits(asked, seen)
-        if sees_all:
-            now = time.monotonic()
-            self.sees_all_at = now + 9 * (now - began)
+        now = time.monotonic()
+        self.sees_all_at = now + 9 * (now - began) if sees_all else self.sees_all_at
         return seen, places
 
     def enter_workers(self, seen: Look, places: dict[str, Place]) -> bool:
@@ -295,8 +295,8 @@ class Placing:
 
     def let_go(self, late: list[Attempt]) -> None:
         """Releases what attempts gave, or may yet give."""
-        for it in late:
-            it.future.release()
+        if late:
+            release(self.client, [it.future for it in late])
         self.late = [it for it in self.late if it not in late]
 
     # ---- what is started ----
@@ -392,10 +392,11 @@ class Placing:
         first = len(self.attempts) + 1
         numbered = [*enumerate(zip(starts, sources), first)]
         keyed = {f"{self.key}{number}": self.call(it.split, it.worker, source) for number, (it, source) in numbered}
+        futures = start(self.client, keyed)
+        self.watch(futures)
         attempts = [
-            Attempt(it.split, number, it.attempt, wave, it.worker, source, distance(places, source, it.worker),
-                    self.watch(future))
-            for (number, (it, source)), future in zip(numbered, start(self.client, keyed))
+            Attempt(it.split, number, it.attempt, wave, it.worker, source, distance(places, source, it.worker), future)
+            for (number, (it, source)), future in zip(numbered, futures)
         ]
         self.attempts += attempts
         self.going += attempts

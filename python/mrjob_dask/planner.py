@@ -8,13 +8,14 @@ import os
 import shlex
 import shutil
 import subprocess
+from array import array
 from collections import Counter
 from itertools import islice
 from pathlib import Path
 from typing import Iterable, Mapping, NamedTuple, Optional
 
-import mrjob_plan
 import mrjob_plan.library
+from mrjob_plan import arrays
 
 from .pending import Pending, Place, Split
 
@@ -79,6 +80,13 @@ def first_splits(splits: Mapping[str, Split], free: Mapping[str, int]) -> dict[s
     return {name: within_holders(split, free) for name, split in islice(held, SPLITS)}
 
 
+def wave_of_few(wave: Wave, splits: dict[str, Split]) -> Wave:
+    """A wave over these splits, with the workers alone that have free slots or hold one of them."""
+    known = {it for split in splits.values() for it in (*split.holders, *split.barred)}
+    places = {it: place for it, place in wave.places.items() if wave.slots[it] or it in known}
+    return Wave(places, {it: wave.slots[it] for it in places}, splits)
+
+
 def within_holders(split: Split, free: Mapping[str, int]) -> Split:
     """The split with as many holders as it may have, those that have free slots first."""
     if len(split.holders) <= HOLDERS:
@@ -102,7 +110,7 @@ class Planner:
         if not any(wave.slots.values()):
             return Plan({}, 0, 1)
         if isinstance(wave.splits, Pending):
-            wave = wave._replace(splits=first_splits(wave.splits.candidates(wave.slots), wave.slots))
+            wave = wave_of_few(wave, first_splits(wave.splits.candidates(wave.slots), wave.slots))
         if not wave.splits:
             return Plan({}, 0, 1)
         unit = unit_of(split.bytes for split in wave.splits.values())
@@ -194,17 +202,28 @@ class Library(Planner):
         self.is_checked = is_checked
 
     def ask(self, wave: Wave, units: dict[str, int]) -> tuple[dict[str, str], int]:
-        workers = {it: mrjob_plan.Worker(place, wave.slots[it]) for it, place in wave.places.items()}
-        cluster = mrjob_plan.Cluster(workers, {place: place.centre for place in wave.places.values()})
-        splits = {
-            name: mrjob_plan.Split(units[name], it.holders, barred=it.barred) for name, it in wave.splits.items()
-        }
-        best = mrjob_plan.plan(cluster, splits)
+        rows, splits, workers = rows_of(wave, units), [*wave.splits], [*wave.places]
+        best = arrays.plan(rows)
         if self.is_checked:
-            verdict = mrjob_plan.check(cluster, splits, best.starts, best.prices)
+            verdict = arrays.check(rows, best.starts, best.split_prices, best.worker_prices)
             if not verdict:
                 raise Unfit(f"a check of the plan says that {verdict}")
-        return best.starts, best.cost
+        started = [(number, it) for number, it in enumerate(best.starts) if it != arrays.NONE]
+        return {splits[number]: workers[it] for number, it in started}, best.cost
+
+
+def rows_of(wave: Wave, units: dict[str, int]) -> arrays.Wave:
+    """The wave by numbers."""
+    racks = {place: number for number, place in enumerate(dict.fromkeys(wave.places.values()))}
+    centres = {centre: number for number, centre in enumerate(dict.fromkeys(place.centre for place in racks))}
+    number = {worker: number for number, worker in enumerate(wave.places)}
+    workers = [(racks[place], wave.slots[worker], 1) for worker, place in wave.places.items()]
+    splits, holders, barred = list[tuple[int, ...]](), array("H"), list[tuple[int, int]]()
+    for name, split in wave.splits.items():
+        barred += [(len(splits), number[it]) for it in split.barred]
+        splits.append((units[name], len(holders), len(split.holders), 1))
+        holders.extend([number[it] for it in split.holders])
+    return arrays.Wave(len(centres), [centres[it.centre] for it in racks], workers, splits, holders, barred)
 
 
 def program() -> str:

@@ -15,10 +15,9 @@ from .planner import distance
 def progress(job: Job) -> None:
     """One line on a terminal, written over and over."""
     if sys.stderr.isatty():
-        ends = Counter(it.end for it in job.attempts)
         print(
-            f"\rwave {len(job.waves)}, maps {ends['done']} of {len(job.splits.bytes)}, lost {ends['lost']},"
-            f" parts {len(job.results)} of {job.work.parts} ", end="", file=sys.stderr, flush=True,
+            f"\rwave {len(job.waves)}, maps {len(job.maps) - len(job.running)} of {len(job.splits.bytes)}, begun"
+            f" {len(job.attempts)}, parts {len(job.results)} of {job.work.parts} ", end="", file=sys.stderr, flush=True,
         )
 
 

@@ -15,7 +15,7 @@ from dataclasses import dataclass
 from enum import IntEnum
 from functools import lru_cache
 from itertools import combinations
-from typing import Any, Dict, List, Mapping, Optional, Sequence, Tuple
+from typing import Any, Dict, List, Mapping, Optional, Sequence, Tuple, Union
 
 from .faults import refusal
 from .library import MAX_SPLITS, NONE, WIDE_NONE, PairRow, SplitRow, Total, VerdictRow, WaveRows, WidePairRow
@@ -288,9 +288,8 @@ def check(wave: Wave, starts: Any, split_prices: Any, worker_prices: Any) -> Ver
         "split_prices": Elements("split_prices", c_uint64, split_prices),
         "worker_prices": Elements("worker_prices", c_uint64, worker_prices),
     }
-    row, call, none = VerdictRow(), load().mrjob_check, NONE
-    if wave.is_wide:
-        row, call, none = WideVerdictRow(), load().mrjob_check_wide, WIDE_NONE
+    row: Union[VerdictRow, WideVerdictRow] = WideVerdictRow() if wave.is_wide else VerdictRow()
+    call, none = (load().mrjob_check_wide, WIDE_NONE) if wave.is_wide else (load().mrjob_check, NONE)
     arrays = [word for it in given.values() for word in it.pair]
     raise_for(call(byref(wave.rows()), *arrays, byref(row)), wave, given)
     place = [None if it == none else it for it in (row.split, row.worker)]
