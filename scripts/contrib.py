@@ -336,7 +336,8 @@ def large(count, program, room):
     job = script("job_of_files.py", folder, "--block", "1", "--names", names)[0]
     is_past = len(job) > 16_777_216 and job.count(b"\nsplit ") == 2000
     count.expect("the job of large files is past version 2", is_past)
-    count.expect("run of a job of large files", said([program, "run"], job), (index_of(names.read_text()).encode(), "", 0))
+    index = index_of(names.read_text()).encode()
+    count.expect("run of a job of large files", said([program, "run"], job), (index, "", 0))
 
 
 def misplaced(lines, racks, workers, replicas):

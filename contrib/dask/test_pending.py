@@ -120,4 +120,5 @@ def many_blocks(trial: Trial, count: Count) -> None:
     placing = Placing(client, tasks, place_of, trial.planner)
     values = client.gather(placing.run())
     is_so = values == [*range(number)] and len(placing.attempts) == number
-    count.holds("1,100 tasks are placed, each once", is_so and placing.waves[0].pending == number, len(placing.attempts))
+    is_so = is_so and placing.waves[0].pending == number
+    count.holds("1,100 tasks are placed, each once", is_so, len(placing.attempts))
