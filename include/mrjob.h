@@ -76,7 +76,7 @@ enum mrjob_status {
 /* Over which network a plan is made. Either gives a best plan; where several are, they may differ. */
 enum mrjob_network {
     MRJOB_RACKS = 0,  /* with a node for each rack and data centre: the quicker one */
-    MRJOB_DIRECT = 1  /* with an arc from each split to each worker: for 1,024 splits and 256 workers */
+    MRJOB_DIRECT = 1  /* with an arc from each split to each worker: up to 1,024 splits and 256 workers */
 };
 
 /* ---- what is asked ---- */
@@ -246,7 +246,8 @@ static inline const char *mrjob_status_text(uint32_t status)
     case MRJOB_REFUSED: return "a condition fails";
     case MRJOB_BAD_RACKS: return "too many data centres or racks, or a rack in no data centre";
     case MRJOB_BAD_WORKERS: return "too many workers, or one in no rack";
-    case MRJOB_BAD_SPLITS: return "too many splits, or one with too many bytes or holders";
+    case MRJOB_BAD_SPLITS:
+        return "too many splits, or one with too many bytes or holders, or with holders past the last";
     case MRJOB_BAD_BARRED: return "a barred pair of no split or of no worker";
     case MRJOB_BAD_HOLDERS: return "a holder that is no worker, or that a split has twice";
     case MRJOB_BAD_LENGTH: return "not one start and price for each split and one price for each worker";

@@ -47,7 +47,7 @@ pub struct Wave<'a> {
 }
 
 /// Over which network a plan is made. Either gives a best plan, `Racks` in less time. `Direct` takes at most
-/// 1,024 splits.
+/// 1,024 splits and 256 workers.
 #[derive(Clone, Copy, Debug, PartialEq, Eq)]
 pub enum Network {
     Racks = 0,
@@ -96,13 +96,15 @@ impl Display for Fault {
             Fault::Racks => "there are too many data centres or racks, or a rack is in no data centre",
             Fault::Workers => "there are too many workers, or one is in no rack",
             Fault::Splits => {
-                "there are too many splits, or one has too many bytes or holders, or some past the last"
+                "there are too many splits, or one has too many bytes or holders, or a holder past the last"
             }
             Fault::Barred => "a barred pair is of no split or of no worker",
             Fault::Holders => "a holder is no worker, or stands twice at one split",
             Fault::Length => "there is not one start and price for each split and one price for each worker",
             Fault::Starts => "a split starts on no worker",
-            Fault::Network => "there is no such network, or more than 1,024 splits for the direct one",
+            Fault::Network => {
+                "there is no such network, or more than 1,024 splits or 256 workers for the direct one"
+            }
             Fault::Memory => "there is no memory",
         })
     }
