@@ -16,13 +16,13 @@ SEE = "The definitions stand in share/doc/mrjob/docs/MODEL.md, and examples in s
 
 
 def section(name, file="docs/MODEL.md"):
-    """What a document has under a head that begins so, without that head and what points to other sections."""
+    """What a document has under a head that begins so, without that head."""
     level, _, words = name.partition(" ")
     text = (ROOT / file).read_text()
     head = re.search(rf"^{level} {re.escape(words)}.*\n", text, re.M)
     rest = text[head.end() :]
     stop = re.search(rf"^#{{1,{len(level)}}} ", rest, re.M)
-    return (rest[: stop.start()] if stop else rest).replace(" (see its machine below)", "")
+    return rest[: stop.start()] if stop else rest
 
 
 @lru_cache(maxsize=None)
