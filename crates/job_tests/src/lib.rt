@@ -1,4 +1,4 @@
-//! Tests of jobs that run on threads, called as any caller calls them.
+//! Tests of jobs that run on threads, called as any caller calls them, and of how the run of a text ends.
 #![tactic(auto)]
 
 #[cfg(test)]
@@ -21,6 +21,8 @@ mod made;
 mod recorded;
 #[cfg(test)]
 mod rows;
+#[cfg(test)]
+mod runs;
 #[cfg(test)]
 mod sizes;
 #[cfg(test)]

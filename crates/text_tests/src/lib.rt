@@ -2,8 +2,8 @@
 //!
 //! They show what no clause says: worked values from outside, that each call succeeds where there is memory,
 //! what comes of readers and writers that fail, that are interrupted or that give one byte a call, which
-//! words are lines, what `clap` says of a command's words, and how runs end. Commands run through the built
-//! program, on the texts in `examples/` and with each call refused in turn (`scripts/refused_calls.sh`).
+//! words are lines, and what `clap` says of a command's words. Commands run through the built program, on the
+//! texts in `examples/` and with each call refused in turn (`scripts/refused_calls.sh`).
 //! Nothing stands on this crate, and so the others are proved once, without tests.
 #![tactic(auto)]
 
@@ -23,8 +23,6 @@ mod maps;
 mod played;
 #[cfg(test)]
 mod readers;
-#[cfg(test)]
-mod runs;
 #[cfg(test)]
 mod scripts;
 #[cfg(test)]
