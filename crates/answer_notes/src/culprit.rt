@@ -136,7 +136,7 @@ fn most_words(text: &[u8], number: u32, keyword: Keyword) -> usize {
     match keyword {
         Keyword::Rack if has_centres(text) => 3,
         Keyword::Rack => 2,
-        Keyword::Sweep => count_workers(text, number).saturating_add(1),
+        Keyword::Ahead | Keyword::Sweep => count_workers(text, number).saturating_add(1),
         _ => usize::MAX,
     }
 }

@@ -143,6 +143,8 @@ pub stands : (k : Known) (word : Keyword) (ws vs : List Word) (v : Word) → mos
     → StandsFor k word (ws ++ v ∷ []) (ws ++ vs)
 stands k keyword.Rack ws vs v past one not_text worst =
     incomplete k keyword.Rack ws vs v _ refl past one
+stands k keyword.Ahead ws vs v past one not_text worst =
+    incomplete k keyword.Ahead ws vs v _ refl past one
 stands k keyword.Sweep ws vs v past one not_text worst =
     incomplete k keyword.Sweep ws vs v _ refl past one
 stands k keyword.Split ws vs v past one not_text worst = long_split k ws vs v past one (worst tt)

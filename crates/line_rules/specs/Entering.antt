@@ -35,6 +35,7 @@ entering_of keyword.Start = ByWord
 entering_of keyword.Price = ByWord
 entering_of keyword.Begin = Nothing
 entering_of keyword.Wave = InTurn
+entering_of keyword.Ahead = InTurn
 entering_of keyword.Done = InTurn
 entering_of keyword.Fail = InTurn
 entering_of keyword.Withdraw = InTurn
@@ -77,6 +78,7 @@ most_of version purpose keyword.Worker = Some (most_workers version purpose)
 most_of version purpose keyword.Split = Some (most_splits version)
 most_of version purpose keyword.Doc = Some (most_documents version)
 most_of version purpose keyword.Wave = Some (most_commands version)
+most_of version purpose keyword.Ahead = Some (most_commands version)
 most_of version purpose keyword.Done = Some (most_commands version)
 most_of version purpose keyword.Fail = Some (most_commands version)
 most_of version purpose keyword.Withdraw = Some (most_commands version)
@@ -102,6 +104,7 @@ most_more_of version k = None
 -- which words have to follow them
 abbrev pub follow_of : Keyword → Follow
 follow_of keyword.Rack = Centre
+follow_of keyword.Ahead = Counts
 follow_of keyword.Sweep = Counts
 follow_of k = Any
 

@@ -6,10 +6,10 @@ use Rattle.line_shapes.specs.declared.keyword.Keyword.{Keyword}
 use Rattle.line_shapes.specs.declared.keyword.Keyword.TheVariants.{Problem, Script, Job, Centre, Rack, Worker}
 use Rattle.line_shapes.specs.declared.keyword.Keyword.TheVariants.{Split, Barred, Dead, Busy, Parts, Target}
 use Rattle.line_shapes.specs.declared.keyword.Keyword.TheVariants.{Silence, Doc, Plan, Start, Price, Begin}
-use Rattle.line_shapes.specs.declared.keyword.Keyword.TheVariants.{Wave, Done, Fail, Withdraw, Die, Join, Add}
-use Rattle.line_shapes.specs.declared.keyword.Keyword.TheVariants.{Lose, Sweep, Reduce, Copies, Backup, End}
+use Rattle.line_shapes.specs.declared.keyword.Keyword.TheVariants.{Wave, Ahead, Done, Fail, Withdraw, Die, Join}
+use Rattle.line_shapes.specs.declared.keyword.Keyword.TheVariants.{Add, Lose, Sweep, Reduce, Copies, Backup, End}
 use Rattle.line_rules.specs.declared.edition.Edition.{Edition}
-use Rattle.line_rules.specs.declared.edition.Edition.TheVariants.{Tells, Each, Second}
+use Rattle.line_rules.specs.declared.edition.Edition.TheVariants.{Tells, Each, Second, Third}
 use Rattle.line_rules.specs.declared.edition.Version.{Version}
 use Rattle.line_rules.specs.declared.edition.Version.TheVariants.{One, Two, Three}
 use Rattle.line_rules.specs.declared.purpose.Purpose.{Purpose}
@@ -59,6 +59,7 @@ in_script Silence = Some Head
 in_script Doc = Some Head
 in_script Begin = Some Head
 in_script Wave = Some Body
+in_script Ahead = Some Body
 in_script Done = Some Body
 in_script Fail = Some Body
 in_script Withdraw = Some Body
@@ -122,6 +123,7 @@ edition_of Script = Tells
 edition_of Job = Tells
 edition_of Centre = Second
 edition_of Backup = Second
+edition_of Ahead = Third
 edition_of k = Each
 
 abbrev pub version_told : List Word → Version
@@ -138,4 +140,6 @@ version_by e version ws = version
 -- a line of this edition may stand in a text of this version
 abbrev pub IsOfVersion : Edition → Version → Type 0
 IsOfVersion Second One = ⊥
+IsOfVersion Third One = ⊥
+IsOfVersion Third Two = ⊥
 IsOfVersion e version = Unit {0}

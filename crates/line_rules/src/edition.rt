@@ -11,7 +11,7 @@ pub enum Version {
     One,
     /// With data centres and backup attempts.
     Two,
-    /// With long names and large splits too.
+    /// With long names, large splits and queues too.
     Three,
 }
 
@@ -24,6 +24,8 @@ pub enum Edition {
     Each,
     /// It stands from version 2 on.
     Second,
+    /// It stands in version 3.
+    Third,
 }
 
 /// What lines of this keyword have to do with the version of their text.
@@ -33,6 +35,7 @@ pub fn edition_of(keyword: Keyword) -> Edition
     match keyword {
         Keyword::Problem | Keyword::Script | Keyword::Job => Edition::Tells,
         Keyword::Centre | Keyword::Backup => Edition::Second,
+        Keyword::Ahead => Edition::Third,
         Keyword::Rack | Keyword::Worker | Keyword::Split => Edition::Each,
         Keyword::Barred | Keyword::Dead | Keyword::Busy => Edition::Each,
         Keyword::Parts | Keyword::Target | Keyword::Silence | Keyword::Doc => Edition::Each,
@@ -52,6 +55,8 @@ pub fn is_of_version(keyword: Keyword, version: Version) -> bool
         (Edition::Tells | Edition::Each, _) => true,
         (Edition::Second, Version::One) => false,
         (Edition::Second, Version::Two | Version::Three) => true,
+        (Edition::Third, Version::One | Version::Two) => false,
+        (Edition::Third, Version::Three) => true,
     }
 }
 
@@ -61,7 +66,7 @@ pub fn version_after(version: Version, line: &KeyedLine<'_, '_>) -> Version
 {
     match edition_of(line.keyword) {
         Edition::Tells => version_of(line.words),
-        Edition::Each | Edition::Second => version,
+        Edition::Each | Edition::Second | Edition::Third => version,
     }
 }
 

@@ -33,7 +33,7 @@ pub enum Follow {
     Any,
     /// A data centre, from version 2 on, and else nothing.
     Centre,
-    /// A count for each worker that was declared.
+    /// A number for each worker that was declared.
     Counts,
 }
 
@@ -52,6 +52,7 @@ pub fn entering_of(keyword: Keyword) -> Entering
         Keyword::Wave | Keyword::Done | Keyword::Fail | Keyword::Withdraw => Entering::InTurn,
         Keyword::Die | Keyword::Join | Keyword::Add | Keyword::Lose => Entering::InTurn,
         Keyword::Sweep | Keyword::Reduce | Keyword::Copies | Keyword::Backup => Entering::InTurn,
+        Keyword::Ahead => Entering::InTurn,
     }
 }
 
@@ -76,6 +77,7 @@ pub fn most_of(version: Version, purpose: Purpose, keyword: Keyword) -> Option<u
         Keyword::Sweep | Keyword::Reduce | Keyword::Copies | Keyword::Backup => {
             Some(most_commands(version))
         }
+        Keyword::Ahead => Some(most_commands(version)),
     }
 }
 
@@ -129,7 +131,7 @@ pub fn most_more_of(version: Version, keyword: Keyword) -> Option<usize>
         Keyword::Plan | Keyword::Start | Keyword::Price | Keyword::Begin | Keyword::Wave => None,
         Keyword::Done | Keyword::Fail | Keyword::Withdraw | Keyword::Die | Keyword::Join => None,
         Keyword::Add | Keyword::Lose | Keyword::Sweep | Keyword::Reduce | Keyword::Copies => None,
-        Keyword::Backup | Keyword::End => None,
+        Keyword::Ahead | Keyword::Backup | Keyword::End => None,
         Keyword::Split => Some(most_holders(version)),
     }
 }
@@ -155,7 +157,7 @@ pub fn follow_of(keyword: Keyword) -> Follow
         Keyword::Lose | Keyword::Reduce | Keyword::Copies | Keyword::Backup => Follow::Any,
         Keyword::End => Follow::Any,
         Keyword::Rack => Follow::Centre,
-        Keyword::Sweep => Follow::Counts,
+        Keyword::Ahead | Keyword::Sweep => Follow::Counts,
     }
 }
 
@@ -170,7 +172,7 @@ pub fn is_priced(keyword: Keyword) -> bool
         Keyword::Start | Keyword::Price | Keyword::Begin | Keyword::Wave | Keyword::Done => false,
         Keyword::Fail | Keyword::Withdraw | Keyword::Die | Keyword::Join | Keyword::Add => false,
         Keyword::Lose | Keyword::Sweep | Keyword::Reduce | Keyword::Copies => false,
-        Keyword::Backup | Keyword::End => false,
+        Keyword::Ahead | Keyword::Backup | Keyword::End => false,
         Keyword::Worker | Keyword::Split => true,
     }
 }

@@ -26,7 +26,7 @@ use std::hash::Hash;
 use std::marker::Model;
 
 // How many keywords there are.
-const KEYWORDS: usize = 31;
+const KEYWORDS: usize = 32;
 
 // Splits are told apart by their numbers, in a table of so many marks.
 const MARKS: usize = 1_024;
@@ -578,7 +578,7 @@ fn split_in(firsts: &IndexMap<&str, (Keyword, u32)>, name: &str) -> Option<u32>
 
 // No places, for each keyword.
 fn no_places(alloc: Global) -> Result<Vec<Vec<usize>>, AllocError>
-    ensures { IfOk result (λ lists. map (λ l. l.items) lists.items ≡ replicate 31 []) }
+    ensures { IfOk result (λ lists. map (λ l. l.items) lists.items ≡ replicate 32 []) }
 {
     let mut lists = Vec::new(alloc);
     for _ in 0..KEYWORDS {

@@ -39,7 +39,7 @@ fn section_in_check(keyword: Keyword) -> Option<Section>
         Keyword::Silence | Keyword::Doc | Keyword::Begin | Keyword::Wave | Keyword::Done => None,
         Keyword::Fail | Keyword::Withdraw | Keyword::Die | Keyword::Join | Keyword::Add => None,
         Keyword::Lose | Keyword::Sweep | Keyword::Reduce | Keyword::Copies => None,
-        Keyword::Backup => None,
+        Keyword::Ahead | Keyword::Backup => None,
         Keyword::Centre | Keyword::Rack | Keyword::Worker | Keyword::Split => Some(Section::Head),
         Keyword::Barred | Keyword::Dead | Keyword::Busy | Keyword::Plan => Some(Section::Head),
         Keyword::Start | Keyword::Price | Keyword::End => Some(Section::Body),
@@ -53,7 +53,7 @@ fn section_in_plan(keyword: Keyword) -> Option<Section>
         Keyword::Problem => Some(Section::First),
         Keyword::Script | Keyword::Job | Keyword::Parts | Keyword::Target => None,
         Keyword::Silence | Keyword::Doc | Keyword::Plan | Keyword::Start | Keyword::Price => None,
-        Keyword::Begin | Keyword::Wave | Keyword::Done | Keyword::Fail => None,
+        Keyword::Begin | Keyword::Wave | Keyword::Ahead | Keyword::Done | Keyword::Fail => None,
         Keyword::Withdraw | Keyword::Die | Keyword::Join | Keyword::Add | Keyword::Lose => None,
         Keyword::Sweep | Keyword::Reduce | Keyword::Copies | Keyword::Backup => None,
         Keyword::Centre | Keyword::Rack | Keyword::Worker | Keyword::Split => Some(Section::Head),
@@ -74,7 +74,7 @@ fn section_in_script(keyword: Keyword) -> Option<Section>
         Keyword::Wave | Keyword::Done | Keyword::Fail | Keyword::Withdraw => Some(Section::Body),
         Keyword::Die | Keyword::Join | Keyword::Add | Keyword::Lose => Some(Section::Body),
         Keyword::Sweep | Keyword::Reduce | Keyword::Copies => Some(Section::Body),
-        Keyword::Backup | Keyword::End => Some(Section::Body),
+        Keyword::Ahead | Keyword::Backup | Keyword::End => Some(Section::Body),
     }
 }
 
@@ -86,7 +86,7 @@ fn section_in_job(keyword: Keyword) -> Option<Section>
         Keyword::Busy | Keyword::Plan | Keyword::Start | Keyword::Price | Keyword::Begin => None,
         Keyword::Wave | Keyword::Done | Keyword::Fail | Keyword::Withdraw | Keyword::Die => None,
         Keyword::Join | Keyword::Add | Keyword::Lose | Keyword::Sweep | Keyword::Reduce => None,
-        Keyword::Copies | Keyword::Backup => None,
+        Keyword::Ahead | Keyword::Copies | Keyword::Backup => None,
         Keyword::Job => Some(Section::First),
         Keyword::Centre | Keyword::Rack | Keyword::Worker | Keyword::Split => Some(Section::Head),
         Keyword::Parts | Keyword::Target | Keyword::Silence | Keyword::Doc => Some(Section::Head),
@@ -107,6 +107,7 @@ pub fn section_after(keyword: Keyword) -> Section
         Keyword::Wave | Keyword::Done | Keyword::Fail | Keyword::Withdraw => Section::Body,
         Keyword::Die | Keyword::Join | Keyword::Add | Keyword::Lose => Section::Body,
         Keyword::Sweep | Keyword::Reduce | Keyword::Copies | Keyword::Backup => Section::Body,
+        Keyword::Ahead => Section::Body,
         Keyword::End => Section::Ended,
     }
 }

@@ -15,8 +15,8 @@ use Rattle.line_shapes.specs.declared.keyword.Keyword.{Keyword}
 use Rattle.line_shapes.specs.declared.keyword.Keyword.TheVariants.{Problem, Script, Job, Centre, Rack, Worker}
 use Rattle.line_shapes.specs.declared.keyword.Keyword.TheVariants.{Split, Barred, Dead, Busy, Parts, Target}
 use Rattle.line_shapes.specs.declared.keyword.Keyword.TheVariants.{Silence, Doc, Plan, Start, Price, Begin}
-use Rattle.line_shapes.specs.declared.keyword.Keyword.TheVariants.{Wave, Done, Fail, Withdraw, Die, Join, Add}
-use Rattle.line_shapes.specs.declared.keyword.Keyword.TheVariants.{Lose, Sweep, Reduce, Copies, Backup, End}
+use Rattle.line_shapes.specs.declared.keyword.Keyword.TheVariants.{Wave, Ahead, Done, Fail, Withdraw, Die, Join}
+use Rattle.line_shapes.specs.declared.keyword.Keyword.TheVariants.{Add, Lose, Sweep, Reduce, Copies, Backup, End}
 use Rattle.line_shapes.specs.declared.place.Place.{Place}
 use Rattle.line_shapes.specs.declared.place.Place.TheVariants.{Text}
 use borrow.Author.Tests.{ltb-true}
@@ -44,6 +44,7 @@ keyword_told w =
     else if bytes_eq w (spelling_of Price) then Price
     else if bytes_eq w (spelling_of Begin) then Begin
     else if bytes_eq w (spelling_of Wave) then Wave
+    else if bytes_eq w (spelling_of Ahead) then Ahead
     else if bytes_eq w (spelling_of Done) then Done
     else if bytes_eq w (spelling_of Fail) then Fail
     else if bytes_eq w (spelling_of Withdraw) then Withdraw

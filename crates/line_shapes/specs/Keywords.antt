@@ -4,9 +4,9 @@ use Rattle.line_shapes.specs.declared.keyword.Keyword.{Keyword}
 use Rattle.line_shapes.specs.declared.keyword.Keyword.TheVariants.{Problem, Script, Job, Centre, Rack}
 use Rattle.line_shapes.specs.declared.keyword.Keyword.TheVariants.{Worker, Split, Barred, Dead, Busy, Parts}
 use Rattle.line_shapes.specs.declared.keyword.Keyword.TheVariants.{Target, Silence, Doc, Plan, Start, Price}
-use Rattle.line_shapes.specs.declared.keyword.Keyword.TheVariants.{Begin, Wave, Done, Fail, Withdraw, Die}
-use Rattle.line_shapes.specs.declared.keyword.Keyword.TheVariants.{Join, Add, Lose, Sweep, Reduce, Copies}
-use Rattle.line_shapes.specs.declared.keyword.Keyword.TheVariants.{Backup, End}
+use Rattle.line_shapes.specs.declared.keyword.Keyword.TheVariants.{Begin, Wave, Ahead, Done, Fail, Withdraw}
+use Rattle.line_shapes.specs.declared.keyword.Keyword.TheVariants.{Die, Join, Add, Lose, Sweep, Reduce}
+use Rattle.line_shapes.specs.declared.keyword.Keyword.TheVariants.{Copies, Backup, End}
 
 abbrev pub spelling_of : Keyword → List ℕ
 spelling_of Problem = codes "problem"
@@ -28,6 +28,7 @@ spelling_of Start = codes "start"
 spelling_of Price = codes "price"
 spelling_of Begin = codes "begin"
 spelling_of Wave = codes "wave"
+spelling_of Ahead = codes "ahead"
 spelling_of Done = codes "done"
 spelling_of Fail = codes "fail"
 spelling_of Withdraw = codes "withdraw"

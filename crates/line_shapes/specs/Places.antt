@@ -28,6 +28,7 @@ places_of keyword.Start = Used kind.Split ∷ Used kind.Worker ∷ []
 places_of keyword.Price = Used kind.Priced ∷ Number 0 18446744073709551615 ∷ []
 places_of keyword.Begin = []
 places_of keyword.Wave = []
+places_of keyword.Ahead = []
 places_of keyword.Done = Number 0 1000000 ∷ []
 places_of keyword.Fail = Number 0 1000000 ∷ []
 places_of keyword.Withdraw = Number 0 1000000 ∷ []
@@ -47,6 +48,7 @@ more_of keyword.Rack = Some (Used kind.Centre)
 more_of keyword.Split = Some (Used kind.Worker)
 more_of keyword.Doc = Some Text
 more_of keyword.Join = Some (Used kind.Split)
+more_of keyword.Ahead = Some (Number 0 255)
 more_of keyword.Sweep = Some (Number 0 1099511627776)
 more_of k = None
 

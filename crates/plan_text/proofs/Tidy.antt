@@ -11,8 +11,8 @@ use Rattle.text_lines.specs.Texts.{Line, Word}
 use Rattle.line_shapes.specs.Lines.{Statement, tail_words}
 use Rattle.line_shapes.specs.Places.{place_at, places_of}
 use Rattle.line_shapes.specs.declared.keyword.Keyword.{Keyword}
-use Rattle.line_shapes.specs.declared.keyword.Keyword.TheVariants.{Add, Backup, Centre, Copies, Die, Doc}
-use Rattle.line_shapes.specs.declared.keyword.Keyword.TheVariants.{Done}
+use Rattle.line_shapes.specs.declared.keyword.Keyword.TheVariants.{Add, Ahead, Backup, Centre, Copies, Die}
+use Rattle.line_shapes.specs.declared.keyword.Keyword.TheVariants.{Doc, Done}
 use Rattle.line_shapes.specs.declared.keyword.Keyword.TheVariants.{Fail, Join, Lose, Rack, Reduce, Split}
 use Rattle.line_shapes.specs.declared.keyword.Keyword.TheVariants.{Sweep}
 use Rattle.line_shapes.specs.declared.keyword.Keyword.TheVariants.{Wave, Withdraw, Worker}
@@ -126,6 +126,7 @@ fewer-newest version purpose Split n room =
     fewer-more _ _ n (newer-newest version 1024 131072 (omega arith)) room
 fewer-newest version purpose Doc n room = lines-newest version n room
 fewer-newest version purpose Wave n room = lines-newest version n room
+fewer-newest version purpose Ahead n room = lines-newest version n room
 fewer-newest version purpose Done n room = lines-newest version n room
 fewer-newest version purpose Fail n room = lines-newest version n room
 fewer-newest version purpose Withdraw n room = lines-newest version n room

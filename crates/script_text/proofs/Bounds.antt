@@ -1,21 +1,24 @@
 -- Commands of a text without a fault are not too many, none gives more counts than there may be workers, and
 -- the words of each keep to their places in view of all rows.
 use Rattle.std.proofs.Common.{ℕ, List, [], ◌∷◌, ◌++◌, ◌≡◌, ◌≤◌, ◌<◌, ◌∙◌, Option, Some, append-nil, arith}
-use Rattle.std.proofs.Common.{length, length-append, refl, subst, sym}
+use Rattle.std.proofs.Common.{length, length-append, length-drop, refl, subst, sym}
 use Rattle.std.specs.List.{All}
 use Rattle.std.proofs.lemmas.List.{length_push}
 use Rattle.std.proofs.lemmas.List.Elements.{All-append, All-cons, All-nil, All-weaker, filter-append}
 use Rattle.text_lines.specs.Texts.{Line}
-use Rattle.line_shapes.specs.Lines.{Statement}
+use Rattle.line_shapes.specs.Lines.{Statement, tail_words}
 use Rattle.line_shapes.specs.Places.{places_of}
 use Rattle.line_shapes.specs.declared.keyword.Keyword.{Keyword}
 use Rattle.line_shapes.specs.declared.keyword.Keyword.TheVariants as keyword
-use Rattle.line_rules.specs.Entering.{command_of, entered_of, entering_of, in_turn, most_commands, most_of}
-use Rattle.line_rules.specs.Faults.{IsFewer, IsFit, IsComplete, counted_by}
+use Rattle.line_rules.specs.Entering.{command_of, entered_of, entering_of, follow_of, in_turn, most_commands}
+use Rattle.line_rules.specs.Entering.{most_of}
+use Rattle.line_rules.specs.Faults.{AreAsMany, IsFewer, IsFit, counted_by, follows}
 use Rattle.line_rules.specs.Known.{Known, entered, rows_of}
 use Rattle.line_rules.specs.Reading.{AreFitLines, IsAllRead}
 use Rattle.line_rules.specs.declared.entering.Entering.{Entering}
 use Rattle.line_rules.specs.declared.entering.Entering.TheVariants.{InTurn}
+use Rattle.line_rules.specs.declared.entering.Follow.{Follow}
+use Rattle.line_rules.specs.declared.entering.Follow.TheVariants.{Counts}
 use Rattle.line_rules.specs.declared.edition.Version.{Version}
 use Rattle.line_rules.specs.declared.edition.Version.TheVariants.{One, Two, Three}
 use Rattle.line_rules.specs.declared.purpose.Purpose.{Purpose}
@@ -23,9 +26,9 @@ use Rattle.line_rules.proofs.FitLines.{known_after, names_after}
 use Rattle.plan_text.specs.Tidy.{IsTidyRow}
 use Rattle.plan_text.proofs.Tidy.{tidy-more, tidy_of}
 
--- a sweep has no more counts than this
+-- a line of a number for each worker has no more of them than this
 abbrev pub IsShort : ℕ → Statement → Type 0
-IsShort n s = s.keyword ≡ keyword.Sweep → length s.words ≤ n
+IsShort n s = follow_of s.keyword ≡ Counts → length s.words ≤ n
 
 -- it is a command, and tidy as a row is
 pub record IsTidyCommand (rows : List Statement) (s : Statement) : Type 0 where
@@ -50,6 +53,18 @@ most-newest Three = omega arith
 abbrev pub workers_in : Known → ℕ
 workers_in k = length (rows_of keyword.Worker k.rows)
 
+no_places : (k : Keyword) → follow_of k ≡ Counts → length (places_of k) ≡ 0
+no_places keyword.Ahead is = refl
+no_places k is = cc
+
+-- a fit line of a number for each worker has as many words as there are workers
+pub one_for_each : (k : Known) (s : Statement) → IsFit k s → follow_of s.keyword ≡ Counts
+    → length s.words ≡ workers_in k
+one_for_each k s fit is =
+    let whole : length (tail_words s) ≡ workers_in k =
+    subst (λ (f : Follow). AreAsMany (follows f k) (length (tail_words s))) is fit.whole in
+    omega (arith, whole, length-drop (length (places_of s.keyword)) s.words, no_places s.keyword is)
+
 workers_grow : (k : Known) (ss : List Statement) → workers_in k ≤ workers_in (names_after k ss)
 workers_grow k [] = omega arith
 workers_grow k (s ∷ ss) = grind (arith, workers_grow (entered k s) ss, filter-append, length-append)
@@ -70,10 +85,7 @@ module _ (n : ℕ) (k : Known) (s : Statement) (whole : length (places_of s.keyw
       (record { few = bounded.few; short = bounded.short; tidy = before })
 
   short : IsShort n s
-  short same =
-      let whole : length s.words ≡ workers_in k =
-      subst (λ (j : Keyword). IsComplete k (record { keyword = j; words = s.words })) same fit.whole in
-      omega (arith, whole, few)
+  short is = omega (arith, one_for_each k s fit is, few)
 
   command : entering_of s.keyword ≡ InTurn → IsTidyCommand k.rows s
   command is = record { in_turn = is; tidy = tidy_of k s whole fit }

@@ -5,9 +5,10 @@ use Rattle.std.specs.Str.{bytes_eq}
 use Rattle.std.proofs.lemmas.List.{length-map}
 use Rattle.std.proofs.lemmas.List.Quantifiers.{position-Some}
 use Rattle.text_lines.specs.Texts.{Word}
-use Rattle.line_shapes.specs.Lines.{Statement}
-use Rattle.line_shapes.specs.declared.keyword.Keyword.TheVariants.{Busy, End, Split, Target, Worker}
-use Rattle.line_rules.specs.Entering.{most_workers}
+use Rattle.line_shapes.specs.Lines.{IsInRange, Statement}
+use Rattle.line_shapes.specs.declared.keyword.Keyword.{Keyword}
+use Rattle.line_shapes.specs.declared.keyword.Keyword.TheVariants.{Ahead, Busy, End, Split, Target, Worker}
+use Rattle.line_rules.specs.Entering.{follow_of, most_workers}
 use Rattle.line_rules.specs.Known.{rows_of}
 use Rattle.line_rules.specs.declared.edition.Version.TheVariants.{Three}
 use Rattle.line_rules.specs.declared.purpose.Purpose.{Purpose}
@@ -17,7 +18,7 @@ use Rattle.plan_text.proofs.Tidy.{tidy-read}
 use Rattle.script_text.specs.Heads.{slots_told}
 use Rattle.script_text.proofs.Lines.{target_within, told_within}
 use Rattle.script_text.proofs.Read.{IsOfJob, few-read, fit_master-read}
-use Rattle.script_text.specs.Commands.{IsKnownIn, IsNumbered, SaysCommand}
+use Rattle.script_text.specs.Commands.{AreTold, IsKnownIn, IsNumbered, SaysCommand}
 use Rattle.script_text.specs.Scripts.{IsOfHead, IsScriptOf, IsTarget}
 use Rattle.script_text.specs.declared.script.Command.{Command}
 use Rattle.script_text.specs.declared.script.Command.TheVariants as command
@@ -28,19 +29,31 @@ use Rattle.script_text.proofs.Bounds.{IsShort, bounded-read, workers_in}
 below : (names : List Word) (name : Word) (n : ℕ) → IsNumbered names name n → n < length names
 below names name n is = (position-Some (λ m. bytes_eq name m) names n name is).0
 
+-- the numbers of places are within the range of their words
+places_within : (s : Statement) → IsInRange s → s.keyword ≡ Ahead → (places : List ℕ)
+    → AreTold s.words places → All (λ n. n ≤ 255) places
+places_within s within is places told i d lt =
+    let in_range = subst (λ (j : Keyword). IsInRange (record { keyword = j; words = s.words })) is within in
+    let word = in_range i (omega (arith, told.many, lt)) in
+    let number = told.each i d lt in
+    omega (arith, word.2, number.1)
+
 -- the command that a line says is known
-pub is_known : (names : Names) (s : Statement) (c : Command) → IsShort 32768 s → SaysCommand names s c
-    → IsKnownIn (length names.workers) (length names.splits) c
-is_known names s (command.Backup split worker) short says =
+pub is_known : (names : Names) (s : Statement) (c : Command) → IsShort 32768 s → IsInRange s
+    → SaysCommand names s c → IsKnownIn (length names.workers) (length names.splits) c
+is_known names s (command.Ahead places) short within says =
+    (omega (arith, says.1.many, short (ap follow_of says.0)), places_within s within says.0 places.items says.1)
+is_known names s (command.Backup split worker) short within says =
     (below names.splits _ split says.1.0, below names.workers _ worker says.1.1)
-is_known names s (command.Die worker) short says = below names.workers _ worker says.1
-is_known names s (command.Join worker splits) short says = grind arith
-is_known names s (command.Add split worker) short says =
+is_known names s (command.Die worker) short within says = below names.workers _ worker says.1
+is_known names s (command.Join worker splits) short within says = grind arith
+is_known names s (command.Add split worker) short within says =
     (below names.splits _ split says.1.0, below names.workers _ worker says.1.1)
-is_known names s (command.Lose split worker) short says =
+is_known names s (command.Lose split worker) short within says =
     (below names.splits _ split says.1.0, below names.workers _ worker says.1.1)
-is_known names s (command.Sweep counts) short says = omega (arith, says.1.many, short says.0)
-is_known names s c short says = tt
+is_known names s (command.Sweep counts) short within says =
+    omega (arith, says.1.many, short (ap follow_of says.0))
+is_known names s c short within says = tt
 
 module _ (purpose : Purpose) (text : List ℕ) (value : ScriptText) (job : IsOfJob purpose)
     (is : IsScriptOf purpose text value) where
@@ -67,9 +80,10 @@ module _ (purpose : Purpose) (text : List ℕ) (value : ScriptText) (job : IsOfJ
       let bounded = bounded-read 32768 purpose text is.known few is.read in
       let nowhere : Statement = record { keyword = End; words = [] } in
       let says = is.declares.commands in
+      let there : i < length is.known.commands = omega (arith, says.many, lt) in
       is_known value.script.names (get_or is.known.commands i nowhere)
-      (get_or value.script.commands.items i d)
-      (bounded.short i nowhere (omega (arith, says.many, lt))) (says.each i nowhere d lt)
+      (get_or value.script.commands.items i d) (bounded.short i nowhere there)
+      (bounded.tidy i nowhere there).tidy.in_range (says.each i nowhere d lt)
 
   pub is_of_head : IsOfHead value.head value.script
   is_of_head = record {

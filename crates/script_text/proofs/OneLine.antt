@@ -5,7 +5,6 @@ use Rattle.line_shapes.specs.Lines.{Statement}
 use Rattle.line_shapes.specs.declared.keyword.Keyword.{Keyword}
 use Rattle.line_shapes.specs.declared.keyword.Keyword.TheVariants as keyword
 use Rattle.line_rules.specs.Entering.{entering_of}
-use Rattle.line_rules.specs.Faults.{IsComplete}
 use Rattle.line_rules.specs.Known.{Known, rows_of}
 use Rattle.line_rules.specs.Reading.{IsFitLine}
 use Rattle.line_rules.specs.Sections.{in_script, section_of}
@@ -19,13 +18,14 @@ use Rattle.script_text.specs.Commands.{IsKnownIn, SaysCommand}
 use Rattle.script_text.specs.Ready.{IsWholeCommand, told_names}
 use Rattle.script_text.specs.declared.script.Command.{Command}
 use Rattle.script_text.specs.declared.script.Names.{Names}
-use Rattle.script_text.proofs.Bounds.{IsShort}
+use Rattle.script_text.proofs.Bounds.{IsShort, one_for_each}
 use Rattle.script_text.proofs.OfHead.{is_known}
 use Rattle.script_text.proofs.Ready.{has_words}
 
 -- what stands in the body of a script, but for `end`
 in_turn : (k : Keyword) → in_script k ≡ Some Body → k ≢ keyword.End → entering_of k ≡ InTurn
 in_turn keyword.Wave is other = refl
+in_turn keyword.Ahead is other = refl
 in_turn keyword.Done is other = refl
 in_turn keyword.Fail is other = refl
 in_turn keyword.Withdraw is other = refl
@@ -51,12 +51,9 @@ module _ (k : Known) (line : Line) (s : Statement) (fit : IsFitLine k line s) (p
       has_words k.rows s.keyword s.words (in_turn s.keyword stands other) (tidy_of k s fit.says.many fit.fit)
 
   short : length (rows_of keyword.Worker k.rows) ≤ 32768 → IsShort 32768 s
-  short few same =
-      let whole = subst (λ (j : Keyword). IsComplete k (record { keyword = j; words = s.words })) same
-      fit.fit.whole in
-      omega (arith, whole, few)
+  short few is = omega (arith, one_for_each k s fit.fit is, few)
 
   -- the command that it says knows no others
   pub known_line : length (rows_of keyword.Worker k.rows) ≤ 32768 → (names : Names) (c : Command)
       → SaysCommand names s c → IsKnownIn (length names.workers) (length names.splits) c
-  known_line few names c says = is_known names s c (short few) says
+  known_line few names c says = is_known names s c (short few) fit.fit.in_range.places says

@@ -59,6 +59,7 @@ module _ (rows : List Statement) (ws : List Word) where
 pub has_words : (rows : List Statement) (k : Keyword) (ws : List Word) → entering_of k ≡ InTurn
     → IsTidyRow rows (line k ws) → HasWords (told_names rows) k ws
 has_words rows keyword.Wave ws is row = tt
+has_words rows keyword.Ahead ws is row = λ i lt. has_number 255 ws i lt (row.in_range i lt)
 has_words rows keyword.Done ws is row = has_attempt ws row.whole row.in_range
 has_words rows keyword.Fail ws is row = has_attempt ws row.whole row.in_range
 has_words rows keyword.Withdraw ws is row = has_attempt ws row.whole row.in_range

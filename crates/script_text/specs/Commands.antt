@@ -38,6 +38,7 @@ ArePair names ws split worker =
 -- the line says the command
 abbrev pub SaysCommand : Names → Statement → Command → Type 0
 SaysCommand names s command.Wave = s.keyword ≡ keyword.Wave
+SaysCommand names s (command.Ahead places) = (s.keyword ≡ keyword.Ahead) × AreTold s.words places.items
 SaysCommand names s (command.Done attempt) = (s.keyword ≡ keyword.Done) × IsAmount (word_at s.words 0) attempt
 SaysCommand names s (command.Fail attempt) = (s.keyword ≡ keyword.Fail) × IsAmount (word_at s.words 0) attempt
 SaysCommand names s (command.Withdraw attempt) =
@@ -62,9 +63,11 @@ pub record SayCommands (names : Names) (lines : List Statement) (commands : List
   pub each : (k : ℕ) (s : Statement) (c : Command) → k < length commands
       → SaysCommand names (slice_index_or lines k s) (slice_index_or commands k c)
 
--- the command names workers and splits below these numbers, and gives no more counts than there may be
--- workers
+-- the command names workers and splits below these numbers, gives no more counts than there may be workers, and
+-- no worker more places than it may have
 abbrev pub IsKnownIn : ℕ → ℕ → Command → Type 0
+IsKnownIn workers splits (command.Ahead places) =
+    (length places.items ≤ 32768) × All (λ n. n ≤ 255) places.items
 IsKnownIn workers splits (command.Backup s w) = (s < splits) × (w < workers)
 IsKnownIn workers splits (command.Die w) = w < workers
 IsKnownIn workers splits (command.Join w set) = (w < workers) × All (λ s. s < splits) set.items

@@ -35,6 +35,7 @@ HavePair names ws = HasName names.splits ws 0 × HasName names.workers ws 1
 -- these words follow the keyword of a command
 abbrev pub HasWords : Names → Keyword → List Word → Type 0
 HasWords names keyword.Wave ws = Unit {0}
+HasWords names keyword.Ahead ws = HaveNumbers 255 ws
 HasWords names keyword.Done ws = HasNumber 1000000 ws 0
 HasWords names keyword.Fail ws = HasNumber 1000000 ws 0
 HasWords names keyword.Withdraw ws = HasNumber 1000000 ws 0

@@ -45,6 +45,7 @@ pub fn command_of(
     let words = line.words;
     match line.keyword {
         Keyword::Wave => Ok(Command::Wave),
+        Keyword::Ahead => Ok(Command::Ahead(numbers_in(alloc, words)?)),
         Keyword::Done => Ok(Command::Done(attempt_at(words, 0))),
         Keyword::Fail => Ok(Command::Fail(attempt_at(words, 0))),
         Keyword::Withdraw => Ok(Command::Withdraw(attempt_at(words, 0))),

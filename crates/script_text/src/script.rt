@@ -7,6 +7,8 @@ use text_lines::NameTable;
 pub enum Command {
     /// The best wave that can start now.
     Wave,
+    /// The heads of a best plan onto so many places of each worker, by number.
+    Ahead(Vec<u64>),
     /// The attempt hands in its result, of a split or of a part.
     Done(AttemptNo),
     Fail(AttemptNo),
