@@ -1,19 +1,19 @@
 -- How entries read where lists go on, and which of them are one event.
-use Rattle.std.proofs.Common.{◌≡◌, ℕ, ◌<◌, Bool, true, false, List, [], ◌∷◌, ◌++◌, length, map, All, get_or}
+use Rattle.std.proofs.Common.{◌≡◌, ℕ, ◌<◌, ◌≤◌, subst, Bool, true, false, List, [], ◌∷◌, ◌++◌, length, map, All, get_or}
 use Rattle.std.proofs.Common.{Some, if◌then◌else◌, refl, sym, ap, ◌∙◌, length-append, arith}
 use Rattle.std.specs.Prelude.{◌↔◌, slice_get, slice_index_or}
 use Rattle.std.specs.Option.{option_map}
 use Rattle.std.proofs.lemmas.List.{get_or_append_left, get_or_push}
 use Rattle.std.proofs.lemmas.Option.{slice_get-map, slice_get_read}
-use Rattle.std.proofs.lemmas.List.Elements.{All-head, All-tail}
+use Rattle.std.proofs.lemmas.List.Elements.{All-head, All-push, All-tail, All-weaker}
 use Rattle.master_state.specs.declared.events.Event.{Event}
 use Rattle.master_state.specs.declared.events.Event.TheVariants as event
 use Rattle.compact_lists.specs.declared.entries.Totals.{Totals}
 use Rattle.compact_lists.specs.declared.entries.Entry.{Entry}
-use Rattle.compact_lists.specs.declared.entries.Entry.TheVariants.{Wave, MapDone, MapFailed, Withdraw, Die}
-use Rattle.compact_lists.specs.declared.entries.Entry.TheVariants.{Join, Add, Lose, Sweep, ReduceStart}
+use Rattle.compact_lists.specs.declared.entries.Entry.TheVariants.{Ahead, Wave, MapDone, MapFailed, Withdraw}
+use Rattle.compact_lists.specs.declared.entries.Entry.TheVariants.{Die, Join, Add, Lose, Sweep, ReduceStart}
 use Rattle.compact_lists.specs.declared.entries.Entry.TheVariants.{PartDone, PartFailed, Backup}
-use Rattle.compact_lists.specs.Entries.{event_of, GoesOn, is_whole, IsWithin, no_totals, wave_of}
+use Rattle.compact_lists.specs.Entries.{ahead_of, event_of, GoesOn, is_whole, IsWithin, no_totals, wave_of}
 
 -- a list goes on as it is, or with one element more
 pub goes_on_same : {X : Type 0} (xs : List X) → GoesOn xs xs
@@ -28,6 +28,31 @@ goes_on_more xs ys x is =
       same = λ i d below. ap (λ zs. slice_index_or zs i d) is ∙ get_or_append_left xs (x ∷ []) d i below;
     }
 
+-- what an entry names is there where there are more totals
+within_more : (e : Entry) (sets few more : ℕ) → few ≤ more → IsWithin sets few e → IsWithin sets more e
+within_more (Wave first place) sets few more le within = omega (arith, le, within)
+within_more (Ahead first place) sets few more le within = omega (arith, le, within)
+within_more (MapDone x) sets few more le within = within
+within_more (MapFailed x) sets few more le within = within
+within_more (Withdraw x) sets few more le within = within
+within_more (Die x) sets few more le within = within
+within_more (Join w place) sets few more le within = within
+within_more (Add x y) sets few more le within = within
+within_more (Lose x y) sets few more le within = within
+within_more (Sweep x) sets few more le within = within
+within_more (ReduceStart x y z) sets few more le within = within
+within_more (PartDone x) sets few more le within = within
+within_more (PartFailed x) sets few more le within = within
+within_more (Backup x y z) sets few more le within = within
+
+pub within_pushed : (es new : List Entry) (e : Entry) (sets few more : ℕ) → new ≡ es ++ e ∷ [] → few ≤ more →
+    All (IsWithin sets few) es → IsWithin sets more e → All (IsWithin sets more) new
+within_pushed es new e sets few more is le all last =
+    subst (All (IsWithin sets more)) (sym is)
+    (All-push (IsWithin sets more) es e
+    (All-weaker (IsWithin sets few) (IsWithin sets more) (λ x within. within_more x sets few more le within) es all)
+    last)
+
 -- the set that was added last
 pub join_read : (sets more : List (List ℕ)) (set : List ℕ) (place : ℕ) → more ≡ sets ++ set ∷ []
     → place ≡ length sets → slice_index_or more place [] ≡ set
@@ -40,6 +65,8 @@ event_same : (e : Entry) (sets new_sets : List (List ℕ)) (totals new_totals : 
     event_of new_sets new_totals e ≡ event_of sets totals e
 event_same (Wave first place) sets new_sets totals new_totals on more within =
     ap (wave_of first) (more.same place no_totals within)
+event_same (Ahead first place) sets new_sets totals new_totals on more within =
+    ap (ahead_of first) (more.same place no_totals within)
 event_same (MapDone x) sets new_sets totals new_totals on more within = refl
 event_same (MapFailed x) sets new_sets totals new_totals on more within = refl
 event_same (Withdraw x) sets new_sets totals new_totals on more within = refl
@@ -67,6 +94,7 @@ events_same (e ∷ es) sets new_sets totals new_totals on more all =
 -- the entry of an event that names nothing
 abbrev whole_of : Event → Entry
 whole_of (event.Wave first count cost) = Wave 0 0
+whole_of (event.Ahead first count cost) = Wave 0 0
 whole_of (event.MapDone a) = MapDone a
 whole_of (event.MapFailed a) = MapFailed a
 whole_of (event.Withdraw a) = Withdraw a
@@ -84,6 +112,7 @@ whole_of (event.Backup a s w) = Backup w a s
 whole_back : (e : Entry) (sets : List (List ℕ)) (totals : List Totals) →
     whole_of (event_of sets totals e) ≡ (if is_whole e then e else Wave 0 0)
 whole_back (Wave first place) sets totals = refl
+whole_back (Ahead first place) sets totals = refl
 whole_back (MapDone x) sets totals = refl
 whole_back (MapFailed x) sets totals = refl
 whole_back (Withdraw x) sets totals = refl
@@ -101,6 +130,7 @@ whole_back (Backup x y z) sets totals = refl
 whole_alone : (e : Entry) (sets more_sets : List (List ℕ)) (totals more_totals : List Totals) →
     is_whole e ≡ true → event_of sets totals e ≡ event_of more_sets more_totals e
 whole_alone (Wave first place) sets more_sets totals more_totals is = absurd cc
+whole_alone (Ahead first place) sets more_sets totals more_totals is = absurd cc
 whole_alone (MapDone x) sets more_sets totals more_totals is = refl
 whole_alone (MapFailed x) sets more_sets totals more_totals is = refl
 whole_alone (Withdraw x) sets more_sets totals more_totals is = refl

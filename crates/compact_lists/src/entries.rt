@@ -6,10 +6,12 @@ ghost use Rattle.compact_lists.specs.Lists.{is_join};
 use master_state::Event;
 use node_ids::{AttemptNo, PartNo, SplitNo, SplitRow, SplitSet, WorkerNo};
 
-// An event in few bytes: a join names the place of its set, and a wave that of its totals, from 0.
+// An event in few bytes: a join names the place of its set, and a wave or the heads of a plan ahead that of
+// their totals, from 0.
 #[derive(Clone, Copy, Debug, PartialEq, Eq)]
 pub(crate) enum Entry {
     Wave(AttemptNo, u32),
+    Ahead(AttemptNo, u32),
     MapDone(AttemptNo),
     MapFailed(AttemptNo),
     Withdraw(AttemptNo),
@@ -27,7 +29,7 @@ pub(crate) enum Entry {
 
 const _: () = prove!(size_of::<Entry>() == 12);
 
-// How many splits a wave starts, and at which byte-distance.
+// How many splits start in a wave or of a plan ahead, and at which byte-distance.
 #[derive(Clone, Copy, Debug)]
 pub(crate) struct Totals {
     pub(crate) count: u32,
@@ -48,6 +50,10 @@ pub(crate) fn entry_of(totals: &mut Vec<Totals>, event: &Event<'_>) -> Entry
         Event::Wave { first, count, cost } => {
             let (count, cost) = (*count, *cost);
             Entry::Wave(*first, add(totals, Totals { count, cost }))
+        }
+        Event::Ahead { first, count, cost } => {
+            let (count, cost) = (*count, *cost);
+            Entry::Ahead(*first, add(totals, Totals { count, cost }))
         }
         Event::MapDone(attempt) => Entry::MapDone(*attempt),
         Event::MapFailed(attempt) => Entry::MapFailed(*attempt),
@@ -87,6 +93,10 @@ pub(crate) fn event_of<'a>(sets: &'a [SplitSet], totals: &[Totals], entry: Entry
             let Totals { count, cost } = totals[place as usize];
             Event::Wave { first, count, cost }
         }
+        Entry::Ahead(first, place) => {
+            let Totals { count, cost } = totals[place as usize];
+            Event::Ahead { first, count, cost }
+        }
         Entry::MapDone(attempt) => Event::MapDone(attempt),
         Entry::MapFailed(attempt) => Event::MapFailed(attempt),
         Entry::Withdraw(attempt) => Event::Withdraw(attempt),
@@ -106,7 +116,7 @@ pub(crate) fn event_of<'a>(sets: &'a [SplitSet], totals: &[Totals], entry: Entry
 pub(crate) fn is_whole(entry: &Entry) -> bool
     ensures { result ≡ is_whole entry.now }
 {
-    !matches!(entry, Entry::Wave(..) | Entry::Join(..))
+    !matches!(entry, Entry::Wave(..) | Entry::Ahead(..) | Entry::Join(..))
 }
 
 // Whether two entries are one and the same.
@@ -116,7 +126,7 @@ pub(crate) fn is_entry(entry: &Entry, other: &Entry) -> bool
     *entry == *other
 }
 
-// Whether an event is that of a wave or a join, and the same as another.
+// Whether an event is that of a wave, of the heads of a plan ahead or of a join, and the same as another.
 pub(crate) fn is_event(event: &Event<'_>, other: &Event<'_>) -> bool
     requires { is_named event.now ≡ true }
     ensures { IsTrue result ↔ (event.now ≡ other.now) }
@@ -125,6 +135,14 @@ pub(crate) fn is_event(event: &Event<'_>, other: &Event<'_>) -> bool
         (
             Event::Wave { first, count, cost },
             Event::Wave {
+                first: begin,
+                count: size,
+                cost: sum,
+            },
+        ) => { first == begin && count == size && cost == sum }
+        (
+            Event::Ahead { first, count, cost },
+            Event::Ahead {
                 first: begin,
                 count: size,
                 cost: sum,

@@ -43,7 +43,7 @@ pub record HandsValue : Type 0 where
   pub total : ℕ
   pub made : ℕ
 
--- how many counts, and how many starts, stand for an event
+-- how many counts, and how many starts, stand for an event (a hand has no call for a plan ahead)
 abbrev pub counts_in : Event → ℕ
 counts_in (Sweep place) = 1
 counts_in event = 0

@@ -3,7 +3,7 @@ use Rattle.std.proofs.Common.{◌≡◌, ℕ, ◌+◌, List, [], ◌∷◌, ◌+
 use Rattle.std.proofs.Common.{◌∙◌, subst}
 use Rattle.std.specs.Prelude.{fold}
 use Rattle.std.proofs.lemmas.List.{append-nil}
-use Rattle.wave_problem.specs.Assignment.{IsBest, pairs_of, total}
+use Rattle.wave_problem.specs.Assignment.{IsAssignment, IsBest, pairs_of, total}
 use Rattle.master_state.specs.declared.answers.Wave.{Wave}
 use Rattle.master_state.specs.declared.events.Event.TheVariants as events
 use Rattle.master_state.specs.Refusals.{has_no_room}
@@ -28,16 +28,24 @@ best_in j pairs = IsBest (problem_of j.setup j.state) pairs
 abbrev no_room_in : Job → ℕ → Bool
 no_room_in j count = has_no_room j.setup j.state count
 
--- the pairs of a plan that is best may start
+abbrev assigned_in : Job → List (ℕ × ℕ) → Type 0
+assigned_in j pairs = IsAssignment (problem_of j.setup j.state) pairs
+
+-- the pairs of an assignment may start, and so may those of a plan that is best
+pub assigned_may_start : {m : Inside} {j : Job} {pairs : List (ℕ × ℕ)} {count : ℕ} → IsMaster m →
+    job_of m ≡ j → assigned_in j pairs → count ≡ length pairs → no_room_in j count ≡ false →
+    MayStart m.workers (map shown_as m.splits.items) pairs
+assigned_may_start {m = m} {j = j} {pairs = pairs} was is assigned many free =
+    may_start_of (setup_of m) (state_of m) pairs
+    (are_starts (setup_of m) (state_of m) pairs was.kept.tidy
+    (subst (λ (i : Job). assigned_in i pairs) (sym is) assigned)
+    (attempts_left (setup_of m) (state_of m) (length pairs)
+    (ap (λ (i : Job). no_room_in i (length pairs)) is ∙ ap (no_room_in j) (sym many) ∙ free)).1)
+
 pub best_may_start : {m : Inside} {j : Job} {pairs : List (ℕ × ℕ)} {count : ℕ} → IsMaster m → job_of m ≡ j →
     best_in j pairs → count ≡ length pairs → no_room_in j count ≡ false →
     MayStart m.workers (map shown_as m.splits.items) pairs
-best_may_start {m = m} {j = j} {pairs = pairs} was is best many free =
-    let here = subst (λ (i : Job). best_in i pairs) (sym is) best in
-    may_start_of (setup_of m) (state_of m) pairs
-    (are_starts (setup_of m) (state_of m) pairs was.kept.tidy here.assignment
-    (attempts_left (setup_of m) (state_of m) (length pairs)
-    (ap (λ (i : Job). no_room_in i (length pairs)) is ∙ ap (no_room_in j) (sym many) ∙ free)).1)
+best_may_start was is best many free = assigned_may_start was is best.assignment many free
 
 -- a master that committed a plan is one still
 pub commits : {old new : Inside} {j : Job} (plan : List (Option ℕ)) (wave : Wave) → IsMaster old →

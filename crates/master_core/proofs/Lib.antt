@@ -14,3 +14,5 @@ pub mod Nearness
 pub mod Backing
 pub mod AllParts
 pub mod Touching
+pub mod Heads
+pub mod Queueing

@@ -3,4 +3,5 @@ pub mod Backups
 pub mod Clusters
 pub mod Inside
 pub mod Near
+pub mod Queues
 pub mod Starts

@@ -244,8 +244,8 @@ fn fit_workers(alloc: Global, engine: &mut Engine, workers: &[Worker]) -> Result
     Ok(true)
 }
 
-// The line of the worker at this place.
-fn line_at(workers: &[Worker], place: usize) -> WorkerLine
+/// The line of the worker at this place.
+pub(crate) fn line_at(workers: &[Worker], place: usize) -> WorkerLine
     requires place { place < length workers.now }
     requires within { All (λ worker. worker.taken ≤ worker.slots) workers.now }
     ensures { result ≡ worker_in (map worker_line workers.now) place }

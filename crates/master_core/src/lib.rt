@@ -5,6 +5,7 @@
 //! present state. Only calls with an allocator take memory. It stands on the tables of `master_tables`.
 #![tactic(auto)]
 
+pub mod ahead;
 mod attempts;
 pub mod cluster;
 mod finished;
@@ -18,6 +19,7 @@ mod piles;
 mod reducing;
 mod touched;
 
+pub use ahead::Ahead;
 pub use cluster::{Cluster, ClusterError};
 pub use finished::{are_parts_done, index_of};
 pub use holders::first_holders;

@@ -7,6 +7,7 @@ ghost use Rattle.master_state.specs.Jobs.{IsKept};
 ghost use Rattle.master_core.specs.Attempts.{IsFound};
 
 mod calls;
+mod queues;
 mod readers;
 mod waves;
 

@@ -14,7 +14,7 @@ use Rattle.master_state.proofs.Ending.{tidy_after_map_done, tidy_map_failed, tid
 use Rattle.master_state.proofs.Ending.{tidy_part_done, tidy_part_failed}
 use Rattle.master_state.proofs.Starting.{tidy_backup, tidy_reduce_start}
 use Rattle.master_state.proofs.Sweeping.{tidy_sweep, tidy_join}
-use Rattle.master_state.proofs.Waves.{tidy_wave}
+use Rattle.master_state.proofs.Waves.{tidy_ahead, tidy_wave}
 
 -- a call that is accepted keeps a state tidy
 pub tidy_after : (setup : Setup) (s : State) (call : Call) (new : State) → IsTidy setup s →
@@ -44,6 +44,8 @@ pub tidy_step : (setup : Setup) (s : State) (event : Event) (new : State) → Is
     Step setup s event new → IsTidy setup new
 tidy_step setup s (events.Wave first count cost) new tidy step =
     tidy_wave setup s first count cost step.0 new tidy step.1
+tidy_step setup s (events.Ahead first count cost) new tidy step =
+    tidy_ahead setup s first count cost step.0 step.1 step.2 new tidy step.3
 tidy_step setup s (events.MapDone a) new tidy step = tidy_change setup s (MapDone a step.0) new tidy step.1
 tidy_step setup s (events.MapFailed a) new tidy step = tidy_change setup s (MapFailed a) new tidy step
 tidy_step setup s (events.Withdraw a) new tidy step = tidy_change setup s (Withdraw a) new tidy step

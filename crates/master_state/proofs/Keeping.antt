@@ -22,7 +22,7 @@ use Rattle.master_state.specs.Refusals.{ReduceStart, PartDone, PartFailed, Backu
 use Rattle.master_state.specs.Changes.{after, split_started, died, part_without, part_done_by}
 use Rattle.master_state.specs.Tidy.{IsTidy}
 use Rattle.master_state.specs.Jobs.{AreResults, IsResult, added_by}
-use Rattle.master_state.specs.Laws.{CallsKeep, WavesKeep, OpeningIsKept}
+use Rattle.master_state.specs.Laws.{AheadsKeep, CallsKeep, WavesKeep, OpeningIsKept}
 use Rattle.master_state.proofs.Lists.{at-map, at-updated_other, at-updated_same, any_inside, any_found}
 use Rattle.master_state.proofs.BarRoom.{room_after, room_after_wave}
 use Rattle.master_state.proofs.Reasons.{none_applies}
@@ -183,6 +183,21 @@ waves_keep old new plan wave kept committed =
       tidy = rw next.setup (tidy_step old.setup old.state event new.state kept.tidy (plan, committed.change));
       bars = rw (next.setup, committed.change.leads)
           (omega (arith, kept.bars, room_after_wave old.state (pairs_of plan)));
+      results = grind (arith, common_steps, results_same, parts_all_started);
+    }
+
+pub aheads_keep : AheadsKeep
+aheads_keep old new asked plan starts wave kept committed =
+    let next = committed.next in
+    let event = events.Ahead wave.first wave.count wave.cost in
+    record {
+      whole = rw next.setup kept.whole;
+      small = rw next.setup kept.small;
+      legal = grind (arith, Leads-more);
+      tidy = rw next.setup (tidy_step old.setup old.state event new.state kept.tidy
+          (asked, plan, starts, committed.change));
+      bars = rw (next.setup, committed.change.leads)
+          (omega (arith, kept.bars, room_after_wave old.state (pairs_of starts)));
       results = grind (arith, common_steps, results_same, parts_all_started);
     }
 

@@ -15,6 +15,7 @@ pub mod Less
 pub mod Ending
 pub mod Starting
 pub mod Sweeping
+pub mod Ahead
 pub mod Waves
 pub mod BarRoom
 -- histories, the problem of a state, and what callers are promised
@@ -23,6 +24,7 @@ pub mod Histories
 pub mod Problems
 pub mod Keeping
 pub mod Loops
+pub mod AllHeads
 pub mod Promises
 pub mod Headline
 -- scripts, computed from the definitions alone

@@ -24,7 +24,8 @@ use Rattle.master_state.specs.Refusals.{MapDone, first_true, split_text, is_full
 use Rattle.master_state.specs.Refusals.{is_wrong_map, is_wrong_part}
 use Rattle.master_state.specs.Changes.{after, without_attempts, after_death, done_by}
 use Rattle.master_state.specs.Steps.{Step, Leads}
-use Rattle.master_state.specs.Laws.{EveryWaveIsBest, ResultsAsToldAreRight, PartsAsToldAreRight}
+use Rattle.master_state.specs.Laws.{EveryAheadIsOfABestPlan, EveryWaveIsBest, ResultsAsToldAreRight}
+use Rattle.master_state.specs.Laws.{PartsAsToldAreRight}
 use Rattle.master_state.specs.Laws.{SecondResultsAreOld, TheOtherGoesOn, GoesOnAlone}
 use Rattle.master_state.specs.Tidy.{IsTidy, IsToldAs}
 use Rattle.master_state.proofs.Lists.{at-map}
@@ -48,6 +49,9 @@ step_between setup old (first ∷ before) event later new leads =
 
 pub every_wave_is_best : EveryWaveIsBest
 every_wave_is_best setup before later first count cost s legal = grind (arith, step_between)
+
+pub every_ahead_is_of_a_best_plan : EveryAheadIsOfABestPlan
+every_ahead_is_of_a_best_plan setup before later first count cost s legal = grind (arith, step_between)
 
 -- a result is refused for its input only where it is wrong
 abbrev is_wrong_input : Option Why → Bool

@@ -15,9 +15,11 @@ use Rattle.master_state.specs.declared.states.SplitState.{SplitState}
 use Rattle.master_state.specs.declared.states.SplitState.TheVariants.{Pending, Running, Done}
 use Rattle.master_state.specs.States.{Setup, State}
 use Rattle.master_state.specs.Tests.{is_pending}
-use Rattle.master_state.specs.Changes.{split_started}
-use Rattle.master_state.specs.Steps.{IsWave, worker_line, split_line, problem_of}
+use Rattle.master_state.specs.Refusals.{has_no_room}
+use Rattle.master_state.specs.Changes.{after_wave, split_started}
+use Rattle.master_state.specs.Steps.{IsAhead, IsWave, worker_line, split_line, problem_of}
 use Rattle.master_state.specs.Tidy.{IsTidy}
+use Rattle.master_state.proofs.Ahead.{heads_assigned}
 use Rattle.master_state.proofs.Lists.{at-map}
 use Rattle.master_state.proofs.Slots.{nobody}
 use Rattle.master_state.proofs.Reasons.{attempts_left}
@@ -107,12 +109,26 @@ pub events_all_started : (s : State) (pairs : List (ℕ × ℕ)) → (all_starte
 events_all_started s [] = refl
 events_all_started s ((k, v) ∷ pairs) = events_all_started (split_started s k v) pairs
 
+-- starts that are an assignment of the state, and for which there is room, keep it tidy
+tidy_assigned : (setup : Setup) (s : State) (pairs : List (ℕ × ℕ)) → IsTidy setup s →
+    IsAssignment (problem_of setup s) pairs → has_no_room setup s (length pairs) ≡ false →
+    IsTidy setup (after_wave s pairs)
+tidy_assigned setup s pairs tidy assigned some =
+    let room = attempts_left setup s (length pairs) some in
+    tidy_counted setup (all_started s pairs)
+    (tidy_all_started setup s pairs tidy (are_starts setup s pairs tidy assigned room.1))
+    (omega (arith, events_all_started s pairs, room.0))
+
 pub tidy_wave : (setup : Setup) (s : State) (first count cost : ℕ) (plan : List (Option ℕ)) (new : State) →
     IsTidy setup s →
     IsWave setup s first count cost plan new → IsTidy setup new
 tidy_wave setup s first count cost plan new tidy waved =
-    let pairs = pairs_of plan in
-    let room = attempts_left setup s (length pairs) waved.room in
-    rw waved.leads (tidy_counted setup (all_started s pairs)
-    (tidy_all_started setup s pairs tidy (are_starts setup s pairs tidy waved.best.assignment room.1))
-    (omega (arith, events_all_started s pairs, room.0)))
+    rw waved.leads (tidy_assigned setup s (pairs_of plan) tidy waved.best.assignment waved.room)
+
+pub tidy_ahead : (setup : Setup) (s : State) (first count cost : ℕ) (asked : List ℕ)
+    (plan starts : List (Option ℕ)) (new : State) → IsTidy setup s →
+    IsAhead setup s first count cost asked plan starts new → IsTidy setup new
+tidy_ahead setup s first count cost asked plan starts new tidy ahead =
+    rw ahead.leads (tidy_assigned setup s (pairs_of starts) tidy
+    (heads_assigned (problem_of setup s) asked plan starts ahead.priced.0 ahead.priced.1
+    ahead.heads) ahead.room)

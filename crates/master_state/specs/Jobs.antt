@@ -26,7 +26,8 @@ use Rattle.master_state.specs.Tests.{all_running, is_done, part_is_done, part_at
 use Rattle.master_state.specs.Refusals.{Call, MapDone, MapFailed, Withdraw, Die, Join, Add, Lose, Sweep}
 use Rattle.master_state.specs.Refusals.{ReduceStart, PartDone, PartFailed, Backup, refusal, has_no_room}
 use Rattle.master_state.specs.Refusals.{is_not_reducible}
-use Rattle.master_state.specs.Steps.{IsWave, IsChange, IsLegal, problem_of}
+use Rattle.master_state.specs.Steps.{AreHeads, IsAhead, IsWave, IsChange, IsLegal, problem_of}
+use Rattle.master_state.specs.Steps.{with_places}
 use Rattle.master_state.specs.Tidy.{IsTidy}
 
 -- a master as its callers see it
@@ -131,6 +132,12 @@ pub record IsCommitted (old : Job) (plan : List (Option ℕ)) (wave : Wave) (new
   pub change : IsWave old.setup old.state wave.first wave.count wave.cost plan new.state
   pub next : IsNext old (events.Wave wave.first wave.count wave.cost) [] wave.place new
 
+-- the starts were made as the heads of the plan onto the places that were asked for
+pub record IsCommittedAhead (old : Job) (asked : List ℕ) (plan starts : List (Option ℕ)) (wave : Wave)
+    (new : Job) : Type 0 where
+  pub change : IsAhead old.setup old.state wave.first wave.count wave.cost asked plan starts new.state
+  pub next : IsNext old (events.Ahead wave.first wave.count wave.cost) [] wave.place new
+
 -- no place for the event is left, or fewer attempts than the plan starts
 abbrev pub lacks_room : Job → List (Option ℕ) → Bool
 lacks_room job plan = has_no_room job.setup job.state (length (pairs_of plan))
@@ -140,6 +147,14 @@ pub record LacksRoomForBest (job : Job) : Type 0 where
   pub plan : List (Option ℕ)
   pub best : IsBest (problem_of job.setup job.state) (pairs_of plan)
   pub full : lacks_room job plan ≡ true
+
+-- the heads of a best plan onto these queues are more than there is room for
+pub record LacksRoomForHeads (job : Job) (asked : List ℕ) : Type 0 where
+  pub plan : List (Option ℕ)
+  pub starts : List (Option ℕ)
+  pub best : IsBest (with_places asked (problem_of job.setup job.state)) (pairs_of plan)
+  pub heads : AreHeads (problem_of job.setup job.state).workers plan starts
+  pub full : lacks_room job starts ≡ true
 
 -- a plan and prices as a claim on the present state
 abbrev pub present : Job → List (Option ℕ) → PriceList → Claim

@@ -1,7 +1,9 @@
 -- What holds of the machine, for whoever sees its calls alone. The functions of `laws` prove each.
-use Rattle.std.specs.Prelude.{ℕ, ◌≡◌, List, [], ◌∷◌, ◌++◌, Option, Some, None, true}
+use Rattle.std.specs.Prelude.{ℕ, ◌≡◌, List, [], ◌∷◌, ◌++◌, ◌≤◌, Option, Some, None, length}
+use Rattle.std.specs.Prelude.{slice_index_or, true}
 use Rattle.word_map.specs.Runs.{MapView}
 use Rattle.shuffle_reduce.specs.Merged.{PartView, AreSameTexts}
+use Rattle.wave_problem.specs.Wave.{worker_at}
 use Rattle.master_state.specs.declared.answers.Why.TheVariants.{OldAttempt, WrongInput}
 use Rattle.master_state.specs.declared.events.Event.{Event}
 use Rattle.master_state.specs.declared.events.Event.TheVariants as events
@@ -13,9 +15,9 @@ use Rattle.master_state.specs.Tests.{runs, split_at}
 use Rattle.master_state.specs.Refusals.{Call, MapDone, MapFailed, Withdraw, Die, PartDone, refusal}
 use Rattle.master_state.specs.Refusals.{split_text}
 use Rattle.master_state.specs.Changes.{after}
-use Rattle.master_state.specs.Steps.{Leads, IsLegal, IsWave}
+use Rattle.master_state.specs.Steps.{Leads, IsAhead, IsLegal, IsWave, problem_of}
 use Rattle.master_state.specs.Tidy.{IsTidy}
-use Rattle.master_state.specs.Jobs.{Job, IsAccepted, IsCommitted, IsKept}
+use Rattle.master_state.specs.Jobs.{Job, IsAccepted, IsCommitted, IsCommittedAhead, IsKept}
 use Rattle.master_state.specs.declared.answers.Wave.{Wave}
 
 -- every state that a legal history leads to is tidy
@@ -33,6 +35,11 @@ abbrev pub WavesKeep : Type 0
 WavesKeep =
     (old new : Job) (plan : List (Option ℕ)) (wave : Wave) → IsKept old → IsCommitted old plan wave new →
     IsKept new
+
+abbrev pub AheadsKeep : Type 0
+AheadsKeep =
+    (old new : Job) (asked : List ℕ) (plan starts : List (Option ℕ)) (wave : Wave) → IsKept old →
+    IsCommittedAhead old asked plan starts wave new → IsKept new
 
 abbrev pub OpeningIsKept : Type 0
 OpeningIsKept =
@@ -55,6 +62,35 @@ EveryWaveIsBest =
     (setup : Setup) (before later : List Event) (first count cost : ℕ) (last : State) →
     IsLegal setup (before ++ events.Wave first count cost ∷ later) last →
     IsWaveAmong setup before later first count cost last
+
+-- what came before the heads of a plan ahead leads to a state in which they are heads of a best plan, and from
+-- their change on the later events lead to the last state
+pub record IsAheadAmong (setup : Setup) (before later : List Event) (first count cost : ℕ)
+    (last : State) : Type 0 where
+  pub old : State
+  pub new : State
+  pub asked : List ℕ
+  pub plan : List (Option ℕ)
+  pub starts : List (Option ℕ)
+  pub legal : IsLegal setup before old
+  pub ahead : IsAhead setup old first count cost asked plan starts new
+  pub leads : Leads setup new later last
+
+abbrev pub EveryAheadIsOfABestPlan : Type 0
+EveryAheadIsOfABestPlan =
+    (setup : Setup) (before later : List Event) (first count cost : ℕ) (last : State) →
+    IsLegal setup (before ++ events.Ahead first count cost ∷ later) last →
+    IsAheadAmong setup before later first count cost last
+
+-- where no worker is asked to have more places than free slots, the heads are a wave
+abbrev pub AheadOntoFreeSlotsIsAWave : Type 0
+AheadOntoFreeSlotsIsAWave =
+    (setup : Setup) (old new : State) (first count cost : ℕ) (asked : List ℕ)
+    (plan starts : List (Option ℕ)) →
+    ((w : ℕ) → slice_index_or asked w 0 ≤ (worker_at (problem_of setup old) w).free) →
+    length starts ≡ length plan →
+    IsAhead setup old first count cost asked plan starts new →
+    IsWave setup old first count cost starts new
 
 -- a result is never refused for its input where it was made as its start told: of the split's text
 abbrev pub ResultsAsToldAreRight : Type 0

@@ -1,10 +1,11 @@
 -- The problem of a state, the step of each event, and the histories that the machine may have.
-use Rattle.std.specs.Prelude.{ℕ, ◌≡◌, ◌+◌, ◌-◌, false, List, [], ◌∷◌, length, map, zip, Option, None}
+use Rattle.std.specs.Prelude.{ℕ, ◌≡◌, ◌+◌, ◌-◌, ◌<◌, false, List, [], ◌∷◌, length, map, max, min, zip, Option}
+use Rattle.std.specs.Prelude.{None, Some}
 use Rattle.word_map.specs.Runs.{MapView}
 use Rattle.shuffle_reduce.specs.Merged.{PartView}
 use Rattle.wave_problem.specs.declared.lines.WorkerLine.{WorkerLine}
-use Rattle.wave_problem.specs.Wave.{Wave, Split, wave_from}
-use Rattle.wave_problem.specs.Assignment.{IsBest, pairs_of, total}
+use Rattle.wave_problem.specs.Wave.{Wave, Split, wave_from, worker_in}
+use Rattle.wave_problem.specs.Assignment.{IsBest, load, pairs_of, start_of, total}
 use Rattle.price_certificate.specs.Certificate.{Certifies, claim}
 use Rattle.price_certificate.specs.PriceList.{PriceList}
 use Rattle.worker_table.specs.declared.Worker.{Worker}
@@ -48,6 +49,43 @@ pub record IsWave (setup : Setup) (old : State) (first count cost : ℕ) (plan :
   pub cost_is : cost ≡ total (problem_of setup old) (pairs_of plan)
   pub leads : new ≡ after_wave old (pairs_of plan)
 
+-- ---- plans ahead
+
+-- a line with so many places in place of its free slots, where these are fewer
+abbrev pub line_with : ℕ → WorkerLine → WorkerLine
+line_with n line = record { live = line.live; free = max n line.free }
+
+-- the lines of workers, each with as many places as are asked for it, and at least its free slots
+abbrev pub queue_lines : List ℕ → List WorkerLine → List WorkerLine
+queue_lines asked [] = []
+queue_lines [] (line ∷ lines) = line ∷ queue_lines [] lines
+queue_lines (n ∷ asked) (line ∷ lines) =
+    line_with n line ∷ queue_lines asked lines
+
+-- the problem with these places in place of free slots
+abbrev pub with_places : List ℕ → Wave → Wave
+with_places asked wave = record wave { workers = queue_lines asked wave.workers }
+
+-- of the splits that the plan gives each worker, the first ones, as many as the worker has free slots
+pub record AreHeads (lines : List WorkerLine) (plan starts : List (Option ℕ)) : Type 0 where
+  pub of_plan : (s w : ℕ) → start_of starts s ≡ Some w → start_of plan s ≡ Some w
+  pub as_many : (w : ℕ) → load (pairs_of starts) w
+      ≡ min (load (pairs_of plan) w) (worker_in lines w).free
+  pub first : (s k w : ℕ) → start_of plan s ≡ Some w → start_of starts s ≡ None → start_of starts k ≡ Some w → k < s
+
+-- the starts are the heads of ANY plan of all pending splits onto these places that is best there, as some prices
+-- certify
+pub record IsAhead (setup : Setup) (old : State) (first count cost : ℕ) (asked : List ℕ)
+    (plan starts : List (Option ℕ)) (new : State) : Type 0 where
+  pub best : IsBest (with_places asked (problem_of setup old)) (pairs_of plan)
+  pub priced : (prices : PriceList) × Certifies (claim (with_places asked (problem_of setup old)) plan prices)
+  pub heads : AreHeads (problem_of setup old).workers plan starts
+  pub room : has_no_room setup old (length (pairs_of starts)) ≡ false
+  pub first_is : first ≡ next_attempt old
+  pub count_is : count ≡ length (pairs_of starts)
+  pub cost_is : cost ≡ total (problem_of setup old) (pairs_of starts)
+  pub leads : new ≡ after_wave old (pairs_of starts)
+
 -- the call is one for this cluster, it is not refused, and its change is made
 pub record IsChange (setup : Setup) (old : State) (call : Call) (new : State) : Type 0 where
   pub known : IsKnown setup call
@@ -58,6 +96,9 @@ pub record IsChange (setup : Setup) (old : State) (call : Call) (new : State) : 
 abbrev pub Step : Setup → State → Event → State → Type 0
 Step setup old (events.Wave first count cost) new =
     (plan : List (Option ℕ)) × IsWave setup old first count cost plan new
+Step setup old (events.Ahead first count cost) new =
+    (asked : List ℕ) × (plan : List (Option ℕ)) × (starts : List (Option ℕ))
+    × IsAhead setup old first count cost asked plan starts new
 Step setup old (events.MapDone a) new = (result : MapView) × IsChange setup old (MapDone a result) new
 Step setup old (events.MapFailed a) new = IsChange setup old (MapFailed a) new
 Step setup old (events.Withdraw a) new = IsChange setup old (Withdraw a) new

@@ -1,5 +1,6 @@
 //! Laws of the machine, each proved once, of its definitions alone.
-ghost use Rattle.master_state.specs.Laws.{CallsKeep, EveryWaveIsBest, LegalStatesAreTidy, OpeningIsKept};
+ghost use Rattle.master_state.specs.Laws.{AheadOntoFreeSlotsIsAWave, AheadsKeep, CallsKeep};
+ghost use Rattle.master_state.specs.Laws.{EveryAheadIsOfABestPlan, EveryWaveIsBest, LegalStatesAreTidy, OpeningIsKept};
 ghost use Rattle.master_state.specs.Laws.{PartsAsToldAreRight, ResultsAsToldAreRight, SecondResultsAreOld};
 ghost use Rattle.master_state.specs.Laws.{TheOtherGoesOn, WavesKeep};
 ghost use Rattle.master_state.specs.Headline.{Headline};
@@ -14,11 +15,18 @@ pub fn masters_keep()
     ensures opening { OpeningIsKept }
     ensures calls { CallsKeep }
     ensures waves { WavesKeep }
+    ensures aheads { AheadsKeep }
 {}
 
 /// Each wave of a legal history is best in the state that it changed.
 pub fn every_wave_is_best()
     ensures { EveryWaveIsBest }
+{}
+
+/// What starts of a plan ahead is of a best plan onto its places, and is a wave where these are the free slots.
+pub fn every_ahead_is_of_a_best_plan()
+    ensures every { EveryAheadIsOfABestPlan }
+    ensures wave { AheadOntoFreeSlotsIsAWave }
 {}
 
 /// What is made as the start of its attempt told is never refused for a wrong input.

@@ -8,6 +8,8 @@
 #![tactic(auto)]
 
 #[cfg(test)]
+mod aheads;
+#[cfg(test)]
 mod backups;
 #[cfg(test)]
 mod block_rows;

@@ -41,6 +41,9 @@ fn add_event(event: &Event<'_>, numbers: &mut Vec<usize>) -> Result<(), AllocErr
         Event::Wave { first, count, cost } => {
             numbers.extend_from_slice(&[1, first.index(), *count as usize, *cost as usize])
         }
+        Event::Ahead { first, count, cost } => {
+            numbers.extend_from_slice(&[14, first.index(), *count as usize, *cost as usize])
+        }
         Event::MapDone(attempt) => numbers.extend_from_slice(&[2, attempt.index()]),
         Event::MapFailed(attempt) => numbers.extend_from_slice(&[3, attempt.index()]),
         Event::Withdraw(attempt) => numbers.extend_from_slice(&[4, attempt.index()]),

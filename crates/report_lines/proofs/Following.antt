@@ -141,6 +141,9 @@ pub step_goes_on : (setup : Setup) (s : State) (event : Event) (new : State) →
 step_goes_on setup s (events.Wave first count cost) new step =
     no_sweep s.sweeps new.sweeps
     (ap (λ (x : State). x.sweeps) step.1.leads ∙ started_sweeps s (pairs_of step.0))
+step_goes_on setup s (events.Ahead first count cost) new step =
+    no_sweep s.sweeps new.sweeps
+    (ap (λ (x : State). x.sweeps) step.3.leads ∙ started_sweeps s (pairs_of step.2))
 step_goes_on setup s (events.MapDone a) new step = change_goes_on setup s _ new step.1
 step_goes_on setup s (events.MapFailed a) new step = change_goes_on setup s _ new step
 step_goes_on setup s (events.Withdraw a) new step = change_goes_on setup s _ new step
@@ -195,6 +198,12 @@ of_step : (setup : Setup) (s : State) (event : Event) (new : State) (sweeps : Li
 of_step setup s (events.Wave first count cost) new sweeps t are step more =
     let pairs = pairs_of step.0 in
     subst (λ (x : State). Tables_are x t) (sym step.1.leads) (record {
+      workers_are = are.workers_are ∙ sym (all_started s pairs);
+      holders_are = are.holders_are ∙ sym (started_holders s pairs);
+    })
+of_step setup s (events.Ahead first count cost) new sweeps t are step more =
+    let pairs = pairs_of step.2 in
+    subst (λ (x : State). Tables_are x t) (sym step.3.leads) (record {
       workers_are = are.workers_are ∙ sym (all_started s pairs);
       holders_are = are.holders_are ∙ sym (started_holders s pairs);
     })
@@ -267,6 +276,7 @@ may_come setup s (events.Lose split w) new t are tidy step =
           ∙ not-false (is_holder s.holders split w) none.0,
     )
 may_come setup s (events.Wave first count cost) new t are tidy step = tt
+may_come setup s (events.Ahead first count cost) new t are tidy step = tt
 may_come setup s (events.MapDone a) new t are tidy step = tt
 may_come setup s (events.MapFailed a) new t are tidy step = tt
 may_come setup s (events.Withdraw a) new t are tidy step = tt

@@ -10,7 +10,7 @@ use Rattle.master_state.specs.declared.events.Event.TheVariants as events
 use Rattle.master_state.specs.declared.states.Start.{Start}
 use Rattle.master_state.specs.declared.states.Work.{Work}
 use Rattle.master_state.specs.declared.states.Work.TheVariants as work
-use Rattle.report_lines.specs.Lines.{backup_line, reduce_line, started_line}
+use Rattle.report_lines.specs.Lines.{ahead_line, backup_line, reduce_line, started_line}
 use Rattle.text_lines.specs.WaveLine.{wave_line}
 
 -- what has become of an attempt
@@ -58,6 +58,8 @@ start_lines splits workers starts first count =
 abbrev pub event_lines : List Word → List Word → List Start → List (List ℕ) → Event → List ℕ
 event_lines splits workers starts sweeps (events.Wave first count cost) =
     wave_line count cost ++ start_lines splits workers starts first count
+event_lines splits workers starts sweeps (events.Ahead first count cost) =
+    ahead_line count cost ++ start_lines splits workers starts first count
 event_lines splits workers starts sweeps (events.MapDone a) = attempt_line (codes "done ") a
 event_lines splits workers starts sweeps (events.MapFailed a) = attempt_line (codes "fail ") a
 event_lines splits workers starts sweeps (events.Withdraw a) = attempt_line (codes "withdraw ") a

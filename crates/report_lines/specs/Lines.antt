@@ -54,6 +54,14 @@ started_line splits workers attempt split w =
     codes "start " ++ decimal attempt ++ codes " " ++ name_of splits split ++ codes " " ++ name_of workers w
     ++ 10 ∷ []
 
+-- how many splits start of a plan ahead, at which byte-distance
+abbrev pub ahead_line : ℕ → ℕ → List ℕ
+ahead_line count cost = codes "ahead " ++ decimal count ++ codes " " ++ decimal cost ++ 10 ∷ []
+
+-- how many splits the whole plan has, at which byte-distance
+abbrev pub queued_line : ℕ → ℕ → List ℕ
+queued_line count cost = codes "queued " ++ decimal count ++ codes " " ++ decimal cost ++ 10 ∷ []
+
 abbrev pub backup_line : List Word → List Word → ℕ → ℕ → ℕ → List ℕ
 backup_line splits workers attempt split w =
     codes "backup " ++ decimal attempt ++ codes " " ++ name_of splits split ++ codes " " ++ name_of workers w

@@ -1,7 +1,7 @@
 ghost use Rattle.std.specs.Prelude.{◌≡◌, ◌++◌, OnOk, string_bytes};
-ghost use Rattle.report_lines.specs.Lines.{accepted_line, answer_line, backup_line, copy_line, copy_lines};
-ghost use Rattle.report_lines.specs.Lines.{dead_line, dead_lines, ignored_line, number_of_reason};
-ghost use Rattle.report_lines.specs.Lines.{reduce_line, started_line};
+ghost use Rattle.report_lines.specs.Lines.{accepted_line, ahead_line, answer_line, backup_line, copy_line};
+ghost use Rattle.report_lines.specs.Lines.{copy_lines, dead_line, dead_lines, ignored_line};
+ghost use Rattle.report_lines.specs.Lines.{number_of_reason, queued_line, reduce_line, started_line};
 ghost use Rattle.text_lines.specs.WaveLine.{wave_line};
 
 use block_map::CopyOrder;
@@ -48,7 +48,21 @@ pub fn add_wave(lines: &mut String, count: u32, cost: u64) -> Result<(), AllocEr
     write!(lines, "wave {count} {cost}\n")
 }
 
-/// The line of an attempt that a wave started.
+/// The line of a plan ahead: how many splits start, at which byte-distance.
+pub fn add_ahead(lines: &mut String, count: u32, cost: u64) -> Result<(), AllocError>
+    ensures { OnOk result (string_bytes lines.new ≡ string_bytes lines.old ++ ahead_line count cost) }
+{
+    write!(lines, "ahead {count} {cost}\n")
+}
+
+/// The line of the whole plan: how many splits it has, at which byte-distance.
+pub fn add_queued(lines: &mut String, count: usize, cost: u64) -> Result<(), AllocError>
+    ensures { OnOk result (string_bytes lines.new ≡ string_bytes lines.old ++ queued_line count cost) }
+{
+    write!(lines, "queued {count} {cost}\n")
+}
+
+/// The line of an attempt that a wave, or a plan ahead, started.
 pub fn add_start(
     lines: &mut String,
     splits: &NameTable<'_>,

@@ -4,7 +4,7 @@ ghost use Rattle.report_lines.specs.History.{attempt_line, event_lines, history_
 ghost use Rattle.report_lines.specs.History.{start_line, start_lines, sweep_line, sweep_lines, worker_line};
 ghost use Rattle.text_lines.specs.Texts.{name_of};
 
-use crate::answers::{add_backup, add_reduce, add_reduce_of, add_start_of, add_wave};
+use crate::answers::{add_ahead, add_backup, add_reduce, add_reduce_of, add_start_of, add_wave};
 use compact_lists::{CountList, Counts, EventList};
 use master_state::{Event, Start, Work};
 use node_ids::{AttemptNo, SplitNo, SplitRow, WorkerNo};
@@ -45,6 +45,10 @@ fn add_event(
     match event {
         Event::Wave { first, count, cost } => {
             add_wave(lines, count, cost)?;
+            add_starts(lines, splits, workers, starts, first, count)
+        }
+        Event::Ahead { first, count, cost } => {
+            add_ahead(lines, count, cost)?;
             add_starts(lines, splits, workers, starts, first, count)
         }
         Event::MapDone(attempt) => add_attempt(lines, "done ", attempt),

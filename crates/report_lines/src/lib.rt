@@ -21,8 +21,8 @@ mod tables;
 mod turns;
 
 pub use answers::{
-    add_accepted, add_answer, add_backup, add_copies, add_dead, add_ignored, add_reduce, add_start,
-    add_wave,
+    add_accepted, add_ahead, add_answer, add_backup, add_copies, add_dead, add_ignored, add_queued,
+    add_reduce, add_start, add_wave,
 };
 pub use endings::{add_index, add_index_count, add_stuck, add_words};
 pub use history::add_history;

@@ -26,4 +26,4 @@ mod planning;
 
 pub use flow_network::NetworkKind;
 pub use laws::engine_is_a_flow;
-pub use planning::{PlanError, Planned, pairs_of, plan, plan_with};
+pub use planning::{PlanError, Planned, cost_of, pairs_of, plan, plan_with};

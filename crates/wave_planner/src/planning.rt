@@ -118,8 +118,8 @@ impl Planned {
     }
 }
 
-// The byte-distance of these starts together.
-fn cost_of(problem: &Problem, pairs: &[(SplitNo, WorkerNo)]) -> u64
+/// The byte-distance of these starts together.
+pub fn cost_of(problem: &Problem, pairs: &[(SplitNo, WorkerNo)]) -> u64
     requires few { length pairs.now ≤ MAX_SPLITS }
     requires known { All (λ pair. (pair.0 < length problem.now.splits)
         × (pair.1 < length problem.now.workers)) pairs.now }

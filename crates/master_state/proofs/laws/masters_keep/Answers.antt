@@ -1,4 +1,4 @@
-use Rattle.master_state.proofs.Keeping.{opening_is_kept, calls_keep, waves_keep}
+use Rattle.master_state.proofs.Keeping.{aheads_keep, calls_keep, opening_is_kept, waves_keep}
 use Rattle.master_state.proofs.laws.masters_keep.Goals as goal
 
 pub returns-clause-opening : goal.returns-clause-opening
@@ -9,3 +9,6 @@ returns-clause-calls c = calls_keep
 
 pub returns-clause-waves : goal.returns-clause-waves
 returns-clause-waves c = waves_keep
+
+pub returns-clause-aheads : goal.returns-clause-aheads
+returns-clause-aheads c = aheads_keep

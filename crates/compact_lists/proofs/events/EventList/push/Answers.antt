@@ -1,17 +1,31 @@
-use Rattle.std.proofs.Common.{◌≡◌, [], ◌∷◌, ◌++◌, length, map, ap, ◌∙◌, arith}
+use Rattle.std.proofs.Common.{◌≡◌, [], ◌∷◌, ◌++◌, length, length-append, map, ap, ◌∙◌, arith}
 use Rattle.std.proofs.lemmas.Grind.{common_steps}
 use Rattle.std.proofs.lemmas.List.{map-append}
 use Rattle.master_state.specs.declared.events.Event.{Event}
 use Rattle.compact_lists.specs.declared.entries.Entry.{Entry}
 use Rattle.compact_lists.specs.Entries.{event_of}
 use Rattle.compact_lists.specs.Lists.{EventsValue}
-use Rattle.compact_lists.proofs.Reading.{events_same, goes_on_same}
+use Rattle.compact_lists.proofs.Reading.{events_same, goes_on_same, within_pushed}
 use Rattle.compact_lists.proofs.events.EventList.push.Goals as goal
 
 pub invariant_of-self : goal.invariant_of-self
 invariant_of-self c =
-    let within = c.entry_of-entry.ensures.within (length c.self.inside.sets.items) in
-    grind (arith, common_steps, within)
+    let made = c.entry_of-entry in
+    let more = made.ensures.totals in
+    let pushed = ap length c.push_reserved.ensures.items
+    ∙ length-append c.self.inside.entries.items (made.result ∷ []) in
+    record {
+      within = within_pushed c.self.inside.entries.items _ made.result (length c.self.inside.sets.items)
+          (length c.self.inside.totals.items) (length made.new.totals.items) c.push_reserved.ensures.items
+          more.no_less c.self.invariant.within
+          (made.ensures.within (length c.self.inside.sets.items));
+      few = grind (arith, common_steps, pushed);
+      few_sets = omega (arith, pushed, c.self.invariant.few_sets);
+      few_totals = omega (arith, pushed, more.one_more, c.self.invariant.few_totals);
+      events = grind (arith, common_steps);
+      sets = grind (arith, common_steps);
+      totals = grind (arith, common_steps);
+    }
 
 pub returns-clause-items : goal.returns-clause-items
 returns-clause-items c =
