@@ -24,10 +24,12 @@ class Attempt:
 
 
 class Started:
-    """A wave: its place, what it started at which cost, and its prices where they were asked for."""
+    """A wave, or the heads of a plan ahead, by its keyword: its place, what it started at which cost, and its prices
+    where they were asked for. No prices certify heads alone."""
 
-    def __init__(self, place, count, cost, prices):
-        self.place, self.count, self.cost, self.prices, self.attempts = place, count, cost, prices, []
+    def __init__(self, keyword, place, count, cost, prices=None):
+        self.keyword, self.place, self.count, self.cost, self.prices = keyword, place, count, cost, prices
+        self.attempts = []
 
 
 class Head:
@@ -71,7 +73,7 @@ class Course:
         """Takes the next event by its line: of a script, or where it starts attempts of a report or history."""
         self.place += 1
         self.events.append(" ".join(words))
-        getattr(self, f"on_{words[0]}")(*words[1:], *([starts] if words[0] == "wave" else []))
+        getattr(self, f"on_{words[0]}")(*words[1:], *([starts] if words[0] in ("wave", "ahead") else []))
 
     def begin(self, kind, number, of, worker):
         if int(number) != len(self.attempts) + 1 or not self.lives[worker]:
@@ -83,12 +85,18 @@ class Course:
         return attempt
 
     def on_wave(self, count, cost, starts):
-        wave = Started(self.place, int(count), int(cost), self.ask(self, starts) if self.ask else None)
+        prices = self.ask(self, starts) if self.ask else None
+        self.on_starts(Started("wave", self.place, int(count), int(cost), prices), starts)
+
+    def on_ahead(self, count, cost, starts):
+        self.on_starts(Started("ahead", self.place, int(count), int(cost)), starts)
+
+    def on_starts(self, wave, starts):
         self.waves.append(wave)
         wave.attempts = [self.begin("map", *words) for words in starts]
         moved = sum(self.head.bytes[it.of] * it.steps for it in wave.attempts)
         if (wave.count, wave.cost) != (len(starts), moved):
-            raise ValueError(count)
+            raise ValueError(wave.count)
 
     def on_backup(self, number, split, worker):
         self.begin("backup", number, split, worker)
@@ -203,8 +211,9 @@ def follow_report(course, commands, said):
             course.ignored += 1
         elif answer != ["accepted", str(course.place + 1)]:
             raise ValueError(answer)
-        elif words[0] in ("wave", "backup", "reduce"):
-            starts, after = starts_in(said, at + 1)
+        elif words[0] in ("wave", "ahead", "backup", "reduce"):
+            # (the whole plan ahead is told before its heads)
+            starts, after = starts_in(said, at + 1 + (said[at + 1][0] == "queued"))
             course.happens(said[at], starts)
             at = after
         else:

@@ -3,7 +3,8 @@
 
 The page is one file that needs no network. It has the cluster as racks with what runs after each event, a time line of
 attempts by worker, and of each wave what it moved. A slider goes from event to event, by arrow keys too. The texts have
-no prices. With --planner the program is asked for the prices of each wave, and whether they certify it.
+no prices. With --planner the program is asked for the prices of each wave, and whether they certify it. Plans ahead are
+shown as waves by their own word, and without prices.
 
     contrib/page_of_history.py contrib/samples/job.txt contrib/samples/job.out > job.html
     contrib/page_of_history.py --planner bin/mrjob contrib/samples/job.txt contrib/samples/job.out > job.html
@@ -61,7 +62,7 @@ def data_of(course, title):
     waves = []
     for it in course.waves:
         said, prices = it.prices or ("", [])
-        waves.append([it.place, it.count, it.cost, [int(start.number) for start in it.attempts], said, prices])
+        waves.append([it.place, it.count, it.cost, [int(start.number) for start in it.attempts], said, prices, it.keyword])
     moves = [[place, "dies", workers[name], []] for place, name in course.deaths]
     for place, name in course.returns:
         moves.append([place, "joins", workers[name], [splits[it] for it in course.events[place - 1].split(" ")[2:]]])

@@ -18,6 +18,7 @@ const byWorker = D.workers.map(() => []);
 for (const it of attempts) byWorker[it.worker].push(it);
 const waveOf = new Map();
 D.waves.forEach((wave, at) => wave[3].forEach(it => waveOf.set(it, at)));
+const waveName = at => D.waves[at][6] + " " + (at + 1);
 let now = 0, chosen = 0, seen = null, zoom = 1, timer = 0;
 
 // A new element with its words, classes and attributes.
@@ -86,9 +87,10 @@ function said(place) {
   const of = it => work(it) + " on " + workerName(it.worker) + " (attempt " + it.number + ")";
   const died = D.moves.filter(it => it[0] === place && it[1] === "dies").map(it => workerName(it[2]));
   switch (keyword) {
-    case "wave": {
-      const at = D.waves.findIndex(it => it[0] === place);
-      return "Wave " + (at + 1) + " starts " + some(+words[0], "map") + ", at a byte-distance of " + number(+words[1]);
+    case "wave": case "ahead": {
+      const name = waveName(D.waves.findIndex(it => it[0] === place));
+      return name[0].toUpperCase() + name.slice(1) + " starts " + some(+words[0], "map") +
+        ", at a byte-distance of " + number(+words[1]);
     }
     case "backup": case "reduce": return "Started: " + of(attempts[words[0] - 1]);
     case "done": return "Done: " + of(attempts[words[0] - 1]);
@@ -131,7 +133,7 @@ function moved(wave) {
 
 function aboutWave(at) {
   const wave = D.waves[at], rows = moved(wave);
-  const lines = ["wave " + (at + 1) + ", event " + number(wave[0]) + ": " + some(wave[1], "map") + ", byte-distance " +
+  const lines = [waveName(at) + ", event " + number(wave[0]) + ": " + some(wave[1], "map") + ", byte-distance " +
     number(wave[2])];
   for (const steps of STEPS) if (rows[steps][0]) {
     lines.push(number(rows[steps][0]) + " " + SAYS[steps] + ", " + bytes(rows[steps][1]) + (steps ? " moved" : ""));
@@ -153,14 +155,17 @@ function facts() {
   el("ending").textContent = keyword === "index" ? "Done: an index of " + number(+count) + " words."
     : +count ? "Stuck: " + number(+count) + " splits are open." : "Every split is done, and not every part is told of.";
   const kinds = what => D.moves.filter(it => it[1] === what).length;
+  const planned = keyword => D.waves.filter(it => it[6] === keyword).length;
+  const plural = { copy: "copies", "plan ahead": "plans ahead" };
   const list = [
     [D.centres.length, "data centre"], [D.racks.length, "rack"], [D.workers.length, "worker"],
     [D.splits.length, "split"], [D.documents, "document"], [D.parts, "part"], [last, "event"],
-    [D.waves.length, "wave"], [attempts.length, "attempt"], [attempts.filter(it => it.kind === 1).length, "backup"],
+    [planned("wave"), "wave"], [planned("ahead"), "plan ahead"], [attempts.length, "attempt"],
+    [attempts.filter(it => it.kind === 1).length, "backup"],
     [kinds("dies"), "death"], [kinds("joins"), "return"], [kinds("adds"), "copy"], [D.ignored, "ignored command"],
   ];
   for (const [count, name] of list) if (count) {
-    const it = make("li", " " + (count === 1 ? name : name === "copy" ? "copies" : name + "s"));
+    const it = make("li", " " + (count === 1 ? name : plural[name] || name + "s"));
     it.prepend(make("b", number(count)));
     el("facts").append(it);
   }
@@ -244,7 +249,7 @@ function tables() {
     [["with its prices", "left"]] : [])]);
   D.waves.slice(0, MOST_ROWS).forEach((wave, at) => {
     const row = make("tr"), rows = moved(wave), cell = make("td");
-    cell.append(go(wave[0], "wave " + (at + 1)));
+    cell.append(go(wave[0], waveName(at)));
     row.append(cell, make("td", number(wave[1])), make("td", number(wave[2])));
     for (const steps of STEPS) {
       row.append(make("td", rows[steps][0] ? number(rows[steps][0]) + ", " + bytes(rows[steps][1]) : ""));
@@ -292,7 +297,7 @@ function showStarts() {
   shownWave = at;
   const table = el("starts");
   table.replaceChildren();
-  el("h-starts").textContent = at < 0 ? "No wave has started" : "What wave " + (at + 1) + " started";
+  el("h-starts").textContent = at < 0 ? "No wave has started" : "What " + waveName(at) + " started";
   if (at < 0) return;
   const wave = D.waves[at], row = make("tr"), priced = wave[5].length > 0;
   for (const words of ["split", "worker"]) row.append(make("th", words, "left", { scope: "col" }));
@@ -500,8 +505,8 @@ function waveLines(pen, ink, from, to, bottom) {
     pen.beginPath(); pen.moveTo(x, pixels.top - 8); pen.lineTo(x, bottom); pen.stroke();
     pen.setLineDash([]);
     if (x < after) return;
-    pen.fillText("wave " + (at + 1), x, pixels.top - 11);
-    after = x + pen.measureText("wave " + (at + 1) + "  ").width;
+    pen.fillText(waveName(at), x, pixels.top - 11);
+    after = x + pen.measureText(waveName(at) + "  ").width;
   });
 }
 

@@ -99,7 +99,7 @@ def arrow(drawing, x, y, size):
 
 
 def frame(drawing, chart, history):
-    """The rows with their workers, the waves as ticks, and the places along the foot."""
+    """The rows with their workers, the waves and plans ahead as ticks, and the places along the foot."""
     right = chart.left + chart.wide
     for at, (name, top) in enumerate(chart.rows.items()):
         if at % 2 == 0:
@@ -109,7 +109,7 @@ def frame(drawing, chart, history):
     for number, wave in enumerate(history.waves, 1):
         x = chart.x(wave.place)
         drawing.line(x, chart.top - 6, x, chart.bottom, "line", 1, ' stroke-dasharray="2 3"')
-        words = f"wave {number}"
+        words = f"{wave.keyword} {number}"
         if x > after:
             drawing.text(x, chart.top - 10, words, 10, "faint")
             after = x + width_of(len(words) + 1, 10)

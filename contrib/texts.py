@@ -44,7 +44,7 @@ class Text:
         """The places of a line, or None where the first word is no keyword."""
         if keyword == "rack" and self.version > 1:
             return ["+rack", "centre"]
-        if keyword == "sweep":
+        if keyword in ("sweep", "ahead"):
             return ["0-1"] * len(self.numbers["worker"])
         places = SHAPES.get(keyword)
         return None if places is None else places.split()

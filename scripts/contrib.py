@@ -504,10 +504,10 @@ def as_history(script_text, report):
     job, history, at = [lines[0].replace("script", "job"), *lines[1:begin], "end", ""], [], 0
     for line in lines[begin + 1 : -1]:
         answer, at = said[at], at + 1
-        is_own = line.split()[0] not in ("wave", "backup", "reduce", "copies")
+        is_own = line.split()[0] not in ("wave", "ahead", "backup", "reduce", "copies")
         history += [line] * (is_own and answer.startswith("accepted"))
         while at < len(said) and not said[at].startswith(("accepted", "ignored", "copies", "index", "stuck")):
-            history += [said[at]] * (not said[at].startswith(("copy", "dead")))
+            history += [said[at]] * (not said[at].startswith(("copy", "dead", "queued")))
             at += 1
     return "\n".join(job).encode(), "\n".join([*history, *said[at:], ""])
 

@@ -67,6 +67,7 @@ def cases():
 
 HEAD = ["problem 1", "rack r", "worker a r 1", "worker b r 1", "split s 10 a"]
 SCRIPT = ["script 1", *HEAD[1:]]
+SCRIPT_3 = ["script 3", "centre c", "rack r c", *HEAD[2:]]
 WORKERS = [f"worker w{n} r 1" for n in range(9)]
 PRICES = ["price s 1", "price a 1", "price b 1"]
 # The command, the lines before the faulty one, that one, its fault, and the number of the word that is marked, from
@@ -81,6 +82,9 @@ MARKED = [
     ("plan", ["problem 2", "centre c"], "rack q c c", 1, 3),
     ("play", [*SCRIPT, "begin"], "sweep 1", 1, None),
     ("play", [*SCRIPT, "begin"], "sweep 1 2 3", 1, 3),
+    ("play", [*SCRIPT_3, "begin"], "ahead 1", 1, None),
+    ("play", [*SCRIPT_3, "begin"], "ahead 1 256", 5, 2),
+    ("play", [*SCRIPT, "begin"], "ahead 1 1", 7, 0),
     ("plan", HEAD, "rack 1r", 2, 1),
     ("plan", HEAD, "split t 10 a -", 2, 4),
     ("plan", HEAD, "worker c q 1", 3, 2),

@@ -6,14 +6,16 @@
 A live master keeps its planner from wave to wave. A wave is near the one before where nothing but slots and pending
 splits changed since: the planner keeps up with these. It is far where holders or barred pairs may have changed: the
 planner goes over to another problem. The clusters have three to five workers and four to seven splits. Their events
-are drawn so that most of them are accepted. Each answer has to be the reference's of reference_play.py, which goes over
-all assignments for a wave. The last line counts the events and the waves of each kind.
+are drawn so that most of them are accepted. A plan ahead stands now and then in place of a wave. Each answer has to be
+the reference's of reference_play.py, which goes over all assignments. The last line counts the events, the waves of
+each kind and the plans ahead.
 """
 import random
 import sys
 from collections import Counter
 
 sys.dont_write_bytecode = True
+import make_texts
 from reference_play import Master, Wrong
 from reference_text import read
 from served import Master as Live, text_of
@@ -35,7 +37,7 @@ def head_of(rnd):
     slots = rnd.choice([[0, 1, 1], [1], [1, 2], [0, 1, 2, 3]])
     sizes = rnd.choice([[0, 1], [1, 2, 3], [5, 7, 10, 20], [1, 1000, 67108864]])
     names = [f"w{worker}" for worker in range(workers)]
-    lines = ["script 2", "parts 64", f"silence {rnd.randint(1, 3)}", *(f"centre c{it}" for it in range(centres))]
+    lines = ["script 3", "parts 64", f"silence {rnd.randint(1, 3)}", *(f"centre c{it}" for it in range(centres))]
     lines += [f"rack r{rack} c{rnd.randrange(centres)}" for rack in range(racks)]
     lines += [f"worker {name} r{rnd.randrange(racks)} {rnd.choice(slots)}" for name in names]
     for split in range(splits):
@@ -125,6 +127,10 @@ class Session:
         self.counts += Counter({f"{self.next_is} waves": 1, f"{self.next_is} waves that start splits": int(starts != [])})
         self.next_is = "near"
 
+    def ahead(self, rnd):
+        starts = self.tell(make_texts.ahead(rnd, len(self.master.live)).split(" "))[3:]
+        self.counts += Counter({"plans ahead": 1, "plans ahead that start splits": int(starts != [])})
+
     def end(self):
         got, wanted = self.live.tell("end"), self.master.ending()
         ended, status = self.live.end(), 1 if wanted[0].startswith("stuck") else 0
@@ -142,7 +148,9 @@ def played(program, seed):
             words = drawn(rnd, session.master)
             if words:
                 session.event(words)
-                if rnd.random() < 0.85:
+                if rnd.random() < 0.15:
+                    session.ahead(rnd)
+                elif rnd.random() < 0.85:
                     session.wave()
         session.end()
     finally:

@@ -22,8 +22,8 @@ import crates  # (it ends a script quietly where head does)
 ROOT = Path(__file__).resolve().parent.parent
 sys.path.insert(0, str(ROOT / "python"))
 from mrjob_plan import Cluster, Prices, Split, Worker, calls
-from mrjob_plan.calls import QUERIES, Copy, Ended, Faulty, Ignored, NotCertified, OpenWork, Reduce, Standing, Start, Wave
-from mrjob_plan.calls import Unanswered, head
+from mrjob_plan.calls import QUERIES, Ahead, Copy, Ended, Faulty, Ignored, NotCertified, OpenWork, Reduce, Standing, Start
+from mrjob_plan.calls import Unanswered, Wave, head
 from mrjob_plan.master import AsyncMaster, Master, MasterEnded, NoSession
 
 CLUSTER = Cluster({"a": Worker("r"), "b": Worker("r"), "c": Worker("q")})
@@ -43,7 +43,7 @@ WORKED = [
     (calls.fail(3), None),
     (calls.lose("s", "c"), None),
     (calls.withdraw(1), None),
-    (calls.wave(), Wave((Start(4, "s", "a"),), 0)),
+    (calls.ahead([1, 0, 2]), Ahead((Start(4, "s", "a"),), 0, 1, 0)),
     (calls.die("c"), None),
     (calls.die("d"), (Faulty, 3)),
     (calls.open_work(), OpenWork((), (Start(4, "s", "a"),), (), (0,), ())),

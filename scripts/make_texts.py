@@ -21,7 +21,7 @@ MOST_OF_SCRIPTS_3 = {**MOST_OF_3, "document": 1_048_576, "command": 1_048_576}
 MOST_WORKERS_OF_JOBS_3 = 1024
 KEYWORDS = ["problem", "script", "job", "centre", "rack", "worker", "split", "barred", "dead", "busy", "plan", "start"]
 KEYWORDS += ["price", "end", "parts", "target", "silence", "doc", "begin", "wave", "done", "fail", "withdraw", "die"]
-KEYWORDS += ["join", "add", "lose", "sweep", "reduce", "copies", "backup"]
+KEYWORDS += ["join", "add", "lose", "sweep", "reduce", "copies", "backup", "ahead"]
 # What stands for a letter before a number in names of version 3.
 LONG = {"w": "10.0.0.1:", "r": "/hall/", "s": "1/blk_"}
 
@@ -246,6 +246,20 @@ def faulty_problem(rnd):
     return spoiled(rnd, head(rnd))
 
 
+def ahead(rnd, workers):
+    """A plan ahead onto places of so many workers: few, none, the most, or a mixture."""
+    kinds = [lambda: rnd.randint(0, 6), lambda: 0, lambda: 255, lambda: rnd.choice([0, 1, 2, 255])]
+    place = rnd.choice(kinds)
+    return " ".join(["ahead", *(str(place()) for _ in range(workers))])
+
+
+def faulty_ahead(rnd, workers):
+    """A plan ahead with a place too many or too few, or with one past the most."""
+    word, *places = ahead(rnd, workers).split(" ")
+    at = rnd.randint(0, len(places))
+    return " ".join([word, *places[:at], *rnd.choice([["1"], [], ["256"]]), *places[at + rnd.choice([0, 1]) :]])
+
+
 def command(rnd, scenario, attempts):
     """A command that may say something, with numbers of attempts up to these."""
     w, s = lambda: f"w{rnd.randrange(scenario.workers)}", lambda: f"s{rnd.randrange(scenario.splits)}"
@@ -256,6 +270,7 @@ def command(rnd, scenario, attempts):
     counts = lambda: " ".join(str(rnd.choice([0, 1, rnd.randrange(9)])) for _ in range(scenario.workers))
     kinds = [lambda: "wave", lambda: "reduce", lambda: "copies"]
     kinds += [number("done")] * 3 + [number("fail"), number("withdraw")]
+    kinds += [lambda: ahead(rnd, scenario.workers)] * 3 * (scenario.version == 3)
     if scenario.workers:
         kinds += [lambda: f"die {w()}", lambda: f"sweep {counts()}", lambda: f"join {w()} {some()}".strip()] * 2
         if scenario.splits:
@@ -287,7 +302,8 @@ def script_lines(rnd):
         commands += [f"join w{w}" for w in range(scenario.workers)]
         commands += [f"add s{s} w{rnd.randrange(scenario.workers)}" for s in range(scenario.splits)]
         for _ in range(rnd.randint(1, 5)):
-            commands += ["wave", *(f"done {attempt}" for attempt in range(1, attempts))]
+            waves = ["wave", *[ahead(rnd, scenario.workers)] * (scenario.version == 3)]
+            commands += [rnd.choice(waves), *(f"done {attempt}" for attempt in range(1, attempts))]
         for _ in range(rnd.randint(1, 8)):
             commands += ["reduce", *(f"done {attempt}" for attempt in range(1, attempts))]
             if rnd.random() < 0.3:
@@ -304,8 +320,12 @@ def script(rnd):
 
 
 def faulty_script(rnd):
-    """A script in which a line or a byte was spoiled."""
-    return spoiled(rnd, script_lines(rnd))
+    """A script in which a line or a byte was spoiled, and which may have a faulty plan ahead in any version."""
+    lines = script_lines(rnd)
+    if rnd.random() < 0.15:
+        workers = sum(line.startswith("worker ") for line in lines)
+        lines.insert(rnd.randint(lines.index("begin") + 1, len(lines) - 1), faulty_ahead(rnd, workers))
+    return spoiled(rnd, lines)
 
 
 def vast_script(rnd):
@@ -330,6 +350,7 @@ def vast_script(rnd):
         kinds = ["copies", "copies", "wave", f"done {number}", f"fail {number}", f"die {rnd.choice(near)}"]
         kinds += [f"add s{rnd.randrange(12)} {rnd.choice(workers)}", f"lose s{rnd.randrange(12)} {rnd.choice(near)}"]
         kinds += [f"join {rnd.choice([*near, *still])} {some}".strip()] * 3
+        kinds.append(" ".join(["ahead", *(str(rnd.randint(0, 3) if name in slots else 0) for name in workers)]))
         lines += rnd.choices(kinds, k=4)
     return text_of([*lines, "wave", "end"])
 
@@ -347,7 +368,8 @@ def joined_script(rnd):
         some = rnd.sample(splits, rnd.choice([1, 9, 64, 65, 66, 1000, len(splits)]))
         if rnd.random() < 0.15:
             some.insert(rnd.randrange(len(some) + 1), rnd.choice(some))
-        lines += [f"die {back}", " ".join([f"join {back}", *some]), rnd.choice(["wave", "copies", "done 1"])]
+        ahead = " ".join(["ahead", *(str(rnd.randint(0, 3)) for _ in workers)])
+        lines += [f"die {back}", " ".join([f"join {back}", *some]), rnd.choice(["wave", ahead, "copies", "done 1"])]
     return text_of([*lines, "end"])
 
 

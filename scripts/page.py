@@ -95,7 +95,7 @@ def waves_in(lines):
     """The attempts of each wave."""
     waves = []
     for line in lines:
-        if line.startswith("wave "):
+        if line.startswith(("wave ", "ahead ")):
             waves.append([])
         elif line.startswith("start "):
             waves[-1].append(int(line.split(" ")[1]))
@@ -137,7 +137,7 @@ def planned(count, program, room):
     for text, answer in ((job, history), (SAMPLE, SAMPLE.with_suffix(".out"))):
         page, wrong, status = script("page_of_history.py", "--planner", program, text, answer)
         count.expect(f"the page of {text.name} by a planner", (wrong, status), ("", 0))
-        waves = json.loads(Page(page.decode()).data)["waves"]
+        waves = [it for it in json.loads(Page(page.decode()).data)["waves"] if it[6] == "wave"]
         certified = [f"certified {count} {cost}" for _, count, cost, *_ in waves]
         count.expect(f"the waves of {text.name} are certified", [it[4] for it in waves], certified)
     count.none("the page of a run is whole", told(script("page_of_history.py", job, history)[0].decode(),
@@ -158,7 +158,7 @@ def followed(count, program):
                 wrong.append((seed, status, str(fault)))
                 continue
             waves += len(course.waves)
-            certified = [(it.prices[0], f"certified {it.count} {it.cost}") for it in course.waves]
+            certified = [(it.prices[0], f"certified {it.count} {it.cost}") for it in course.waves if it.prices]
             wrong += [(seed, *it) for it in certified if it[0] != it[1]]
         count.none(f"what 60 made {kind}s tell is followed", wrong)
         count.expect(f"the made {kind}s have waves", waves > 60)

@@ -100,15 +100,17 @@ def answer(text):
 def most_and_least(wave):
     """The most splits that can start together, and the least cost of as many: by going over the workers' slots in
     all ways that matter, split by split, with the free slots that are left as the state."""
-    found = {tuple(wave.free): (0, 0)}
+    idle = [worker for worker, free in enumerate(wave.free) if free]
+    found = {tuple(wave.free[worker] for worker in idle): (0, 0)}
     for split in range(len(wave.splits)):
+        pairs = [(at, wave.cost(split, it)) for at, it in enumerate(idle) if wave.is_admissible(split, it)]
         following = {}
         for free, (count, cost) in found.items():
             choices = [(free, (count, cost))]
-            for worker in range(len(wave.workers)):
-                if free[worker] and wave.is_admissible(split, worker):
-                    left = free[:worker] + (free[worker] - 1,) + free[worker + 1 :]
-                    choices.append((left, (count + 1, cost + wave.cost(split, worker))))
+            for at, more in pairs:
+                if free[at]:
+                    left = free[:at] + (free[at] - 1,) + free[at + 1 :]
+                    choices.append((left, (count + 1, cost + more)))
             for left, (starts, spent) in choices:
                 known = following.get(left)
                 if known is None or (-starts, spent) < (-known[0], known[1]):

@@ -2,7 +2,8 @@
 """Judges what `mrjob play` answered to a script: an independent reference for tests.
 
 It follows the report command by command, as docs/MODEL.md says what each call of the master does. A report leaves the
-starts of a wave free, so these are read from the report, and must be a best plan of the problem that stands then.
+starts of a wave free, so these are read from the report, and must be a best plan of the problem that stands then. Those
+of a plan ahead must be the heads of a best plan onto its places.
 
     reference_play.py TEXT < REPORT      says what is wrong, or nothing; the status is 0 where nothing is
 """
@@ -30,6 +31,20 @@ class Problem(Wave):
         self.holders, self.live, self.barred = master.holders, master.live, master.barred
         self.free = [master.free(worker) for worker in range(len(self.workers))]
         self.pending = [not running and done is None for running, done in zip(master.running, master.done)]
+
+
+def rest_of(problem, whole, starts):
+    """What is left of a plan ahead behind these heads, as a problem. A worker with a free slot left has no split more
+    in the plan, and another one only splits after its heads."""
+    rest = copy.copy(whole)
+    rest.pending = [pending and split not in starts for split, pending in enumerate(whole.pending)]
+    rest.free, rest.barred = [0] * len(whole.free), {*whole.barred}
+    for worker, free in enumerate(problem.free):
+        heads = [split for split, to in starts.items() if to == worker]
+        if len(heads) == free:
+            rest.free[worker] = whole.free[worker] - free
+            rest.barred |= {(split, worker) for split in range(max(heads, default=0))}
+    return rest
 
 
 class Master:
@@ -210,27 +225,49 @@ class Master:
         wanted = [*self.accepted(), f"wave {count} {cost}"]
         if lines[:2] != wanted:
             raise Wrong(f"{wanted} is what a best wave says, and not {lines[:2]}")
-        starts, spent = [], 0
-        for line in lines[2 : 2 + count]:
+        starts, spent = self.started(problem, lines[2 : 2 + count])
+        if (len(starts), spent) != (count, cost):
+            raise Wrong(f"{len(starts)} splits start at {spent}, and not {count} at {cost}")
+        return [*wanted, *lines[2 : 2 + count]]
+
+    def started(self, problem, lines):
+        """The worker of each split that these lines start, by rising split, and their cost in this problem."""
+        starts, spent = {}, 0
+        for line in lines:
             word, attempt, split, worker = (line.split(" ") + [""] * 4)[:4]
             split = problem.splits.index(split.encode())
             worker = problem.workers.index(worker.encode())
-            if line != f"start {self.next} {self.split(split)} {self.worker(worker)}" or starts and starts[-1] >= split:
+            if line != f"start {self.next} {self.split(split)} {self.worker(worker)}" or split <= max(starts, default=-1):
                 raise Wrong(f"{line} is no start of a wave by rising split")
             if not problem.is_admissible(split, worker) or not self.free(worker):
                 raise Wrong(f"{line} may not start")
             spent += problem.cost(split, worker)
             self.start(self.running[split], worker)
-            starts.append(split)
-        if (len(starts), spent) != (count, cost):
-            raise Wrong(f"{len(starts)} splits start at {spent}, and not {count} at {cost}")
-        return [*wanted, *lines[2 : 2 + count]]
+            starts[split] = worker
+        return starts, spent
+
+    def ahead(self, places, lines):
+        """The lines of a plan ahead, whose starts are those of the report's own lines."""
+        problem = Problem(self.given, self)
+        whole = copy.copy(problem)
+        whole.free = [max(it) for it in zip(places, problem.free)]
+        accepted, (planned, total) = self.accepted(), most_and_least(whole)
+        count = int("".join(lines[1:2]).removeprefix("ahead ").partition(" ")[0])
+        starts, spent = self.started(problem, lines[3 : 3 + count])
+        wanted = [*accepted, f"ahead {len(starts)} {spent}", f"queued {planned} {total}", *lines[3 : 3 + count]]
+        if lines[:3] != wanted[:3]:
+            raise Wrong(f"{wanted[:3]} is what the plan ahead says, and not {lines[:3]}")
+        if most_and_least(rest_of(problem, whole, starts)) != (planned - count, total - spent):
+            raise Wrong(f"{lines[3 : 3 + count]} are not the heads of a best plan ahead")
+        return wanted
 
     def answer(self, command, words, lines):
         """The lines that a command answers. Those of a wave are read from the report."""
         workers, splits = self.given.numbers["worker"], self.given.numbers["split"]
-        if command in ("wave",):
+        if command == "wave":
             return self.wave(lines)
+        if command == "ahead":
+            return self.ahead([int(word) for word in words], lines)
         if command in ("done", "fail", "withdraw"):
             attempt = int(words[0])
             return self.finish(attempt) if command == "done" else self.drop(attempt, command == "fail")
@@ -291,8 +328,8 @@ def misplayed(text, written, status):
     at = 0
     try:
         for command, words in given.commands:
-            # (a wave's lines are two and its starts)
-            wanted = master.answer(command, words, lines[at : at + 2 + len(given.bytes)])
+            # (a wave's lines are two and its starts, and a plan ahead has one more)
+            wanted = master.answer(command, words, lines[at : at + 3 + len(given.bytes)])
             if lines[at : at + len(wanted)] != wanted:
                 return f"line {at + 1}: {' '.join([command, *(it.decode() for it in words)])} answers {wanted}"
             at += len(wanted)

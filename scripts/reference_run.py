@@ -5,8 +5,9 @@ a holder stay open, or all of them. A history is followed event by event, and so
 itself: copies, returns and backups.
 """
 from copy import deepcopy
+from itertools import takewhile
 
-from reference_play import Master, Wrong
+from reference_play import Master, Problem, Wrong
 from reference_text import Fault, read
 
 
@@ -44,6 +45,11 @@ def happened(master, lines):
     elif command == "wave":
         wanted = master.wave([f"accepted {master.events + 1}", *lines])
         told = lines[: len(wanted) - 1]
+    elif command == "ahead":
+        # (a history leaves out the places and the whole plan)
+        told = [lines[0], *takewhile(lambda it: it.startswith("start "), lines[1:])]
+        starts, spent = master.started(Problem(master.given, master), told[1:])
+        wanted = [*master.accepted(), f"ahead {len(starts)} {spent}", *told[1:]]
     else:
         # (a sweep tells the dead of a report, which a history leaves out)
         wanted, told = master.answer(command, words, lines)[:1], []

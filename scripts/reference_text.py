@@ -60,6 +60,7 @@ SHAPES = {
     b"reduce": "",
     b"copies": "",
     b"backup": "nn",
+    b"ahead": "+",
     b"end": "",
 }
 ANY_HEAD = (b"centre", b"rack", b"worker", b"split")
@@ -71,9 +72,11 @@ HEAD = {
 }
 COMMANDS = (
     b"wave", b"done", b"fail", b"withdraw", b"die", b"join", b"add", b"lose", b"sweep", b"reduce", b"copies", b"backup",
+    b"ahead",
 )
 BODY = {"check": (b"start", b"price", b"end"), "play": (*COMMANDS, b"end")}
-SECOND_VERSION = (b"centre", b"backup")
+# From which version on a line may stand, where not from the first.
+SINCE = {b"centre": 2, b"backup": 2, b"ahead": 3}
 SETTINGS = (b"parts", b"target", b"silence")
 # The least and the greatest number of a line.
 RANGES = {
@@ -89,6 +92,7 @@ RANGES = {
     b"fail": (0, 1_000_000),
     b"withdraw": (0, 1_000_000),
     b"sweep": (0, 2**40),
+    b"ahead": (0, 255),
 }
 # The most bytes of a split and the most slots of a worker, by the text's version.
 MOST_BYTES = {1: 67_108_864, 2: 67_108_864, 3: 8_589_934_592}
@@ -192,7 +196,7 @@ def may_stand(given, keyword):
     first = FIRST[given.command]
     if given.lines == 0 or keyword in FIRST.values():
         return given.lines == 0 and keyword == first
-    if keyword in SECOND_VERSION and given.version == 1:
+    if given.version < SINCE.get(keyword, 1):
         return False
     places = HEAD if given.section == "head" else BODY
     return keyword in places[given.command]

@@ -37,6 +37,7 @@ PROBLEM = ("splits", "workers", "centre_of", "rack_of", "bytes", "free", "live",
 SMALL = ["script 1", "rack r", "worker a r 1", "worker b r 1", "split s 10 a", "doc d s the cat"]
 TWO = ["script 2", "centre c", "rack r c", "worker a r 1", "worker b r 2", "split s 10 a", "split t 20 a", "parts 2",
        "silence 3"]
+AHEAD = ["script 3", "centre c", "rack r c", "rack q c", "worker a r 1", "worker b q 1", "split s 10 a", "split t 20 a"]
 NONE = []
 # What a client tells and is answered, worked by hand by the rules of docs/MODEL.md. Each head is told with `begin`.
 WORKED = {
@@ -72,6 +73,8 @@ WORKED = {
         ("die s", ["fault 3"]),
         ("add a s", ["fault 3"]),
         ("sweep 1", ["fault 1"]),
+        ("ahead 1", ["fault 1"]),
+        ("ahead 1 1", ["fault 7"]),
         ("join a s s", ["fault 8"]),
         ("backup s a", ["fault 7"]),
         ("script 1", ["fault 7"]),
@@ -111,6 +114,17 @@ WORKED = {
         ("open", ["open s", "open t", "part 1"]),
         ("outputs", NONE),
         ("end", ["stuck 2", "open s", "open t"]),
+    ]),
+    "a split that waits for its holder": (AHEAD, 1, [
+        ("ahead 2", ["fault 1"]),
+        ("ahead 2 256", ["fault 5"]),
+        ("ahead 2 0", ["accepted 1", "ahead 1 0", "queued 2 0", "start 1 s a"]),
+        ("open", ["start 1 s a", "open t", "part 0"]),
+        ("ahead 1 0", ["accepted 2", "ahead 0 0", "queued 1 0"]),
+        ("done 1", ["accepted 3"]),
+        ("ahead 0 0", ["accepted 4", "ahead 1 0", "queued 1 0", "start 2 t a"]),
+        ("ahead 255 255", ["accepted 5", "ahead 0 0", "queued 0 0"]),
+        ("end", ["stuck 1", "open t"]),
     ]),
     "queries of nothing, and of all that is done": (["script 1", "rack r", "worker a r 0"], 1, [
         ("workers", ["live a 0 0 0"]),

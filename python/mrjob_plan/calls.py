@@ -89,6 +89,17 @@ class Wave:
 
 
 @dataclass(frozen=True)
+class Ahead:
+    """What starts of a plan ahead, and how many bytes times steps that moves; how many splits the whole plan has, and
+    how many bytes times steps all of them would move."""
+
+    starts: Tuple[Start, ...]
+    cost: int
+    planned: int
+    total: int
+
+
+@dataclass(frozen=True)
 class Reduce:
     """An attempt of a part, counted from 0, on a worker."""
 
@@ -173,6 +184,16 @@ def started(rows: List[List[str]]) -> Wave:
 
 def wave() -> Call[Wave]:
     return Call("wave", started)
+
+
+def ahead(places: Iterable[int]) -> Call[Ahead]:
+    """The places of each worker's queue, in the order of the head."""
+
+    def read(rows: List[List[str]]) -> Ahead:
+        wave = started([rows[0], *rows[2:]])
+        return Ahead(wave.starts, wave.cost, int(rows[1][1]), int(rows[1][2]))
+
+    return Call(" ".join(["ahead", *map(str, places)]), read)
 
 
 def plan(starts: Mapping[str, str], prices: NamedPrices) -> List[Call[None]]:

@@ -22,11 +22,11 @@ from types import TracebackType
 from typing import BinaryIO, Iterable, List, Mapping, Optional, Sequence, Tuple, Type, TypeVar, Union
 
 from . import calls
-from .calls import QUERIES, Call, Copy, Ended, Faulty, Ignored, NamedPrices, NotCertified, OpenWork, Reduce, Standing
-from .calls import Start, Wave, head
+from .calls import QUERIES, Ahead, Call, Copy, Ended, Faulty, Ignored, NamedPrices, NotCertified, OpenWork, Reduce
+from .calls import Standing, Start, Wave, head
 
-__all__ = ["AsyncMaster", "Copy", "Ended", "Faulty", "Ignored", "Master", "MasterEnded", "NoSession", "NotCertified"]
-__all__ += ["OpenWork", "Reduce", "Standing", "Start", "Wave", "head"]
+__all__ = ["Ahead", "AsyncMaster", "Copy", "Ended", "Faulty", "Ignored", "Master", "MasterEnded", "NoSession"]
+__all__ += ["NotCertified", "OpenWork", "Reduce", "Standing", "Start", "Wave", "head"]
 
 T = TypeVar("T")
 Place = Union[str, "os.PathLike[str]"]
@@ -229,6 +229,12 @@ class Master:
     def wave(self) -> Wave:
         """Starts as many pending splits as any admissible assignment can, at the least byte-distance."""
         return self.do(calls.wave())
+
+    def ahead(self, places: Iterable[int]) -> Ahead:
+        """Plans all pending splits onto the workers' queues, as well as can be, and starts as many of each queue as its
+        worker has free slots. `places` has a number for each worker, in the order of the head, 0 to 255: so many splits
+        its queue holds, and at least as many as it has free slots. With all 0 it starts a wave."""
+        return self.do(calls.ahead(places))
 
     def commit(self, starts: Mapping[str, str], prices: NamedPrices) -> Wave:
         """Starts a plan of one's own: these splits, each on its worker, if the prices certify that no assignment of the
@@ -443,6 +449,9 @@ class AsyncMaster:
 
     async def wave(self) -> Wave:
         return await self.do(calls.wave())
+
+    async def ahead(self, places: Iterable[int]) -> Ahead:
+        return await self.do(calls.ahead(places))
 
     async def commit(self, starts: Mapping[str, str], prices: NamedPrices) -> Wave:
         return await asyncio.shield(self._commit(calls.plan(starts, prices)))

@@ -1,17 +1,24 @@
--- What a command does to a job: nothing, a wave, or one call of the master.
-use Rattle.std.proofs.Common.{◌≡◌, ◌≢◌, ◌⊎◌, ◌≤◌, inl, inr, ℕ, List, Option, Some, None, refl, arith, cond}
+-- What a command does to a job: nothing, many starts, or one call of the master.
+use Rattle.std.proofs.Common.{◌≡◌, ◌≢◌, ◌⊎◌, ◌≤◌, inl, inr, ℕ, List, [], Option, Some, None, refl, arith}
+use Rattle.std.proofs.Common.{cond, length, true}
+use Rattle.wave_problem.specs.Assignment.{pairs_of}
+use Rattle.master_state.specs.declared.events.Event.{Event}
+use Rattle.master_state.specs.declared.events.Event.TheVariants as events
 use Rattle.master_state.specs.declared.states.Start.{Start}
 use Rattle.master_state.specs.declared.states.Work.{Work}
 use Rattle.master_state.specs.declared.states.Work.TheVariants as works
 use Rattle.master_state.specs.States.{start_of}
 use Rattle.master_state.specs.Refusals.{Call, MapDone, MapFailed, Withdraw, Die, Join, Add, Lose, Sweep}
 use Rattle.master_state.specs.Refusals.{ReduceStart, PartDone, PartFailed, Backup}
-use Rattle.master_state.specs.Jobs.{Job, Answers, Plain}
+use Rattle.master_state.specs.Changes.{after_wave}
+use Rattle.master_state.specs.Jobs.{Job, Answers, IsNext, Plain}
+use Rattle.master_state.specs.Steps.{Step}
 use Rattle.script_text.specs.declared.script.Names.{Names}
 use Rattle.script_text.specs.declared.script.Command.{Command}
 use Rattle.script_text.specs.declared.script.Command.TheVariants as command
-use Rattle.job_play.specs.Reports.{IsTold, Performs, Does, DoesWork, FailsAttempt, FailsWork, Waves}
-use Rattle.job_play.specs.Rooms.{starts_one}
+use Rattle.job_play.specs.Reports.{Aheads, IsTold, Performs, Does, DoesWork, FailsAttempt, FailsWork, Waves}
+use Rattle.job_play.specs.Rooms.{starts_many, starts_one}
+use Rattle.job_play.proofs.Few.{best_few, heads_few}
 
 -- the attempts that a call may start
 abbrev pub started_by : Call → ℕ
@@ -27,9 +34,51 @@ pub record IsCalled (old new : Job) (c : Command) : Type 0 where
   pub no_reduce : c ≢ command.Reduce → call ≢ ReduceStart
   pub starts : started_by call ≤ cond {A = ℕ} (starts_one c) 1 0
 
-abbrev pub IsDone : Names → Job → Job → Command → List ℕ → Type 0
-IsDone names old new c out =
-    (new ≡ old) ⊎ (((c ≡ command.Wave) × Waves names old out new) ⊎ IsCalled old new c)
+-- a wave or a plan ahead, which starts these pairs by one event, no more than the cluster has splits
+pub record IsStarted (old new : Job) (c : Command) : Type 0 where
+  pub pairs : List (ℕ × ℕ)
+  pub event : Event
+  pub place : ℕ
+  pub next : IsNext old event [] place new
+  pub step : Step old.setup old.state event new.state
+  pub leads : new.state ≡ after_wave old.state pairs
+  pub few : length pairs ≤ length old.setup.cluster.splits
+  pub many : starts_many c ≡ true
+
+abbrev pub IsDone : Job → Job → Command → Type 0
+IsDone old new c = (new ≡ old) ⊎ (IsStarted old new c ⊎ IsCalled old new c)
+
+started_wave : (names : Names) (old new : Job) (out : List ℕ) → Waves names old out new
+    → IsStarted old new command.Wave
+started_wave names old new out waves =
+    let wave = waves.wave in
+    let change = waves.committed.change in
+    record {
+      pairs = pairs_of waves.plan;
+      event = events.Wave wave.first wave.count wave.cost;
+      place = wave.place;
+      next = waves.committed.next;
+      step = (waves.plan, change);
+      leads = change.leads;
+      few = best_few old.setup old.state waves.plan change.best;
+      many = refl;
+    }
+
+started_ahead : (names : Names) (asked : List ℕ) (old new : Job) (out : List ℕ) (c : Command)
+    → starts_many c ≡ true → Aheads names asked old out new → IsStarted old new c
+started_ahead names asked old new out c many aheads =
+    let wave = aheads.wave in
+    let change = aheads.committed.change in
+    record {
+      pairs = pairs_of aheads.starts;
+      event = events.Ahead wave.first wave.count wave.cost;
+      place = wave.place;
+      next = aheads.committed.next;
+      step = (asked, aheads.plan, aheads.starts, change);
+      leads = change.leads;
+      few = heads_few old.setup old.state asked aheads.plan aheads.starts change.best change.heads;
+      many = many;
+    }
 
 called : (old new : Job) (c : Command) (call : Call) (after : Plain → List ℕ) (out : List ℕ)
     → (c ≢ command.Reduce → call ≢ ReduceStart) → started_by call ≤ cond {A = ℕ} (starts_one c) 1 0
@@ -49,10 +98,10 @@ done_work old new a (works.Split split) out does =
 done_work old new a (works.Part part) out does =
     called old new _ (PartDone a does.result) _ out (λ _ e. cc) (omega arith) does.is_told
 
-done_attempt : (names : Names) (old new : Job) (a : ℕ) (start : Option Start) (out : List ℕ)
-    → Does old a start out new → IsDone names old new (command.Done a) out
-done_attempt names old new a None out does = inl does.unchanged
-done_attempt names old new a (Some start) out does = inr (inr (done_work old new a start.work out does))
+done_attempt : (old new : Job) (a : ℕ) (start : Option Start) (out : List ℕ)
+    → Does old a start out new → IsDone old new (command.Done a)
+done_attempt old new a None out does = inl does.unchanged
+done_attempt old new a (Some start) out does = inr (inr (done_work old new a start.work out does))
 
 failed_work : (old new : Job) (a : ℕ) (work : Work) (out : List ℕ) → FailsWork old a work out new
     → IsCalled old new (command.Fail a)
@@ -61,19 +110,20 @@ failed_work old new a (works.Split split) out fails =
 failed_work old new a (works.Part part) out fails =
     called old new _ (PartFailed a) _ out (λ _ e. cc) (omega arith) fails
 
-failed_attempt : (names : Names) (old new : Job) (a : ℕ) (start : Option Start) (out : List ℕ)
-    → FailsAttempt old a start out new → IsDone names old new (command.Fail a) out
-failed_attempt names old new a None out fails = inl fails.unchanged
-failed_attempt names old new a (Some start) out fails =
-    inr (inr (failed_work old new a start.work out fails))
+failed_attempt : (old new : Job) (a : ℕ) (start : Option Start) (out : List ℕ)
+    → FailsAttempt old a start out new → IsDone old new (command.Fail a)
+failed_attempt old new a None out fails = inl fails.unchanged
+failed_attempt old new a (Some start) out fails = inr (inr (failed_work old new a start.work out fails))
 
 pub is_done : (names : Names) (target : ℕ) (old new : Job) (c : Command) (out : List ℕ)
-    → Performs names target old c out new → IsDone names old new c out
-is_done names target old new command.Wave out done = inr (inl (refl, done))
+    → Performs names target old c out new → IsDone old new c
+is_done names target old new command.Wave out done = inr (inl (started_wave names old new out done))
+is_done names target old new (command.Ahead places) out done =
+    inr (inl (started_ahead names places.items old new out (command.Ahead places) refl done))
 is_done names target old new (command.Done a) out done =
-    done_attempt names old new a (start_of old.state a) out done
+    done_attempt old new a (start_of old.state a) out done
 is_done names target old new (command.Fail a) out done =
-    failed_attempt names old new a (start_of old.state a) out done
+    failed_attempt old new a (start_of old.state a) out done
 is_done names target old new (command.Withdraw a) out done =
     inr (inr (called old new _ (Withdraw a) _ out (λ _ e. cc) (omega arith) done))
 is_done names target old new (command.Backup s w) out done =

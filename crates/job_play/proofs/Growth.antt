@@ -1,15 +1,11 @@
 -- How many events and attempts commands make.
-use Rattle.std.proofs.Common.{◌≡◌, ℕ, ◌+◌, ◌-◌, ◌*◌, ◌<◌, ◌≤◌, true, List, [], ◌∷◌, ◌++◌, Option, Some, None}
-use Rattle.std.proofs.Common.{length, refl, sym, ap, ◌∙◌, subst, arith, All, cond, min, take, drop, get_or}
-use Rattle.std.proofs.Common.{length-append, inl, inr}
-use Rattle.std.specs.Prelude.{fold, zip, count_by}
+use Rattle.std.proofs.Common.{◌≡◌, ℕ, ◌+◌, ◌*◌, ◌<◌, ◌≤◌, Bool, true, List, [], ◌∷◌, ◌++◌, length, refl}
+use Rattle.std.proofs.Common.{sym, ap, ◌∙◌, subst, arith, cond, min, take, drop, get_or, length-append}
+use Rattle.std.proofs.Common.{inl, inr}
+use Rattle.std.specs.Prelude.{fold, count_by}
 use Rattle.std.proofs.lemmas.Bool.{leb-true, ltb-true, or_cases}
-use Rattle.std.proofs.lemmas.List.{length-map, drop_more, take-append-drop}
+use Rattle.std.proofs.lemmas.List.{drop_more, take-append-drop}
 use Rattle.std.proofs.lemmas.List.Sums.{sum_by-cons}
-use Rattle.std.proofs.lemmas.List.Elements.{All-head, All-tail}
-use Rattle.std.proofs.lemmas.Slice.Zip.{length-zip}
-use Rattle.wave_problem.specs.Assignment.{IsBest, pairs_from, pairs_of}
-use Rattle.wave_problem.proofs.Bound.{pending_known}
 use Rattle.worker_table.specs.Workers.{silent_in, swept}
 use Rattle.master_state.specs.declared.answers.Answer.TheVariants as answer
 use Rattle.master_state.specs.declared.states.Start.{Start}
@@ -17,17 +13,16 @@ use Rattle.master_state.specs.declared.states.Work.{Work}
 use Rattle.master_state.specs.declared.states.Work.TheVariants as works
 use Rattle.master_state.specs.States.{Cluster, Setup, State}
 use Rattle.master_state.specs.Refusals.{Call, has_no_room, is_full, Sweep, ReduceStart, Backup}
-use Rattle.master_state.specs.Steps.{problem_of, split_line}
 use Rattle.master_state.specs.Changes.{after, died, split_started}
 use Rattle.master_state.specs.Jobs.{Job, Answers, Plain}
 use Rattle.script_text.specs.declared.script.Names.{Names}
 use Rattle.script_text.specs.declared.script.Command.{Command}
-use Rattle.script_text.specs.declared.script.Command.TheVariants as command
-use Rattle.job_play.specs.Reports.{Performs, PerformsAll, Waves, LacksRoom, opening_job}
+use Rattle.job_play.specs.Reports.{Performs, PerformsAll, LacksRoom, opening_job}
 use Rattle.job_play.specs.Playing.{PerformedAll}
-use Rattle.job_play.specs.Rooms.{RunsOut, attempts_for, is_wave, starts_one, setup_for}
+use Rattle.job_play.specs.Rooms.{RunsOut, attempts_for, starts_many, starts_one, setup_for}
 use Rattle.script_text.specs.declared.script.Script.{Script}
-use Rattle.job_play.proofs.Calls.{is_done, started_by}
+use Rattle.job_play.proofs.Calls.{IsStarted, is_done, started_by}
+use Rattle.job_play.proofs.Few.{allowed, may_start_few}
 use Rattle.job_play.proofs.Kept.{performs_setup}
 
 -- ---- what a change adds
@@ -102,48 +97,15 @@ adds_answered old new call (answer.Accepted place rest) answers =
 adds_answered old new call (answer.Ignored why rest) answers =
     adds_same old new (started_by call) answers.same
 
--- rising pairs of splits below n are no more than n
-rising_few : (n k : ℕ) (plan : List (Option ℕ)) → All (λ (pair : ℕ × ℕ). pair.0 < n) (pairs_from k plan) →
-    length (pairs_from k plan) ≤ n - k
-rising_few n k [] below = omega arith
-rising_few n k (None ∷ plan) below = omega (arith, rising_few n (k + 1) plan below)
-rising_few n k (Some w ∷ plan) below =
-    let here : k < n = All-head (λ (pair : ℕ × ℕ). pair.0 < n) (k, w) (pairs_from (k + 1) plan) below in
-    let more = rising_few n (k + 1) plan
-    (All-tail (λ (pair : ℕ × ℕ). pair.0 < n) (k, w) (pairs_from (k + 1) plan) below) in
-    omega (arith, here, more)
-
--- a best plan starts no more splits than the cluster has
-pub best_few : (setup : Setup) (s : State) (plan : List (Option ℕ)) →
-    IsBest (problem_of setup s) (pairs_of plan) → length (pairs_of plan) ≤ length setup.cluster.splits
-best_few setup s plan best =
-    let wave = problem_of setup s in
-    let few : length wave.splits ≤ length setup.cluster.splits = omega (
-      arith,
-      length-map (zip (zip setup.cluster.splits s.splits) s.holders)
-          (λ line. split_line line.0.0 line.0.1 line.1),
-      length-zip (zip setup.cluster.splits s.splits) s.holders,
-      length-zip setup.cluster.splits s.splits,
-    ) in
-    let rising = rising_few (length wave.splits) 0 plan
-    (λ i d inside. pending_known wave _ (best.assignment.admissible i d inside).pending) in
-    omega (arith, few, rising)
-
-adds_wave : (names : Names) (old new : Job) (out : List ℕ) → Waves names old out new →
+adds_started : (old new : Job) (c : Command) → IsStarted old new c →
     Adds old.state new.state (length old.setup.cluster.splits)
-adds_wave names old new out waves =
-    let committed = waves.committed.change in
-    let pairs = pairs_of waves.plan in
-    let few = best_few old.setup old.state waves.plan committed.best in
+adds_started old new c started =
     let events : new.state.events ≡ old.state.events + 1 =
-    ap (λ (s : State). s.events) committed.leads ∙ ap (λ (n : ℕ). n + 1) (started_events old.state pairs) in
-    let starts : length new.state.starts ≡ length old.state.starts + length pairs =
-    ap (λ (s : State). length s.starts) committed.leads ∙ started_count old.state pairs in
-    record { events = omega (arith, events); starts = omega (arith, starts, few) }
-
--- the attempts that a command may start
-abbrev allowed : ℕ → Command → ℕ
-allowed splits c = splits * cond {A = ℕ} (is_wave c) 1 0 + cond {A = ℕ} (starts_one c) 1 0
+    ap (λ (s : State). s.events) started.leads
+    ∙ ap (λ (n : ℕ). n + 1) (started_events old.state started.pairs) in
+    let starts : length new.state.starts ≡ length old.state.starts + length started.pairs =
+    ap (λ (s : State). length s.starts) started.leads ∙ started_count old.state started.pairs in
+    record { events = omega (arith, events); starts = omega (arith, starts, started.few) }
 
 no_more : (old new : State) (few many : ℕ) → few ≤ many → Adds old new few → Adds old new many
 no_more old new few many most made =
@@ -154,10 +116,11 @@ adds : (names : Names) (target : ℕ) (old new : Job) (c : Command) (out : List 
     Adds old.state new.state (allowed (length old.setup.cluster.splits) c)
 adds names target old new c out done = elim (is_done names target old new c out done) [
   | inl same ↦ adds_same old new _ same
-  | inr (inl wave) ↦
+  | inr (inl started) ↦
       let splits = length old.setup.cluster.splits in
-      subst (λ (one : Command). Adds old.state new.state (allowed splits one)) (sym wave.0)
-      (no_more _ _ splits _ (omega arith) (adds_wave names old new out wave.1))
+      let many : cond {A = ℕ} (starts_many c) 1 0 ≡ 1 = ap (λ (b : Bool). cond {A = ℕ} b 1 0) started.many in
+      let all : splits ≤ allowed splits c = omega (arith, ap (λ (n : ℕ). splits * n) many) in
+      no_more _ _ splits _ all (adds_started old new c started)
   | inr (inr called) ↦
       no_more _ _ (started_by called.call) _ (omega (arith, called.starts))
       (adds_answered old new called.call called.given called.answers)
@@ -168,8 +131,9 @@ adds names target old new c out done = elim (is_done names target old new c out 
 attempts-cons : (splits : ℕ) (c : Command) (commands : List Command) →
     attempts_for splits (c ∷ commands) ≡ allowed splits c + attempts_for splits commands
 attempts-cons splits c commands =
-    let many : count_by is_wave (c ∷ commands) ≡ cond {A = ℕ} (is_wave c) 1 0 + count_by is_wave commands =
-    sum_by-cons (λ (x : Command). cond {A = ℕ} (is_wave x) 1 0) c commands in
+    let many : count_by starts_many (c ∷ commands)
+    ≡ cond {A = ℕ} (starts_many c) 1 0 + count_by starts_many commands =
+    sum_by-cons (λ (x : Command). cond {A = ℕ} (starts_many x) 1 0) c commands in
     let single : count_by starts_one (c ∷ commands)
     ≡ cond {A = ℕ} (starts_one c) 1 0 + count_by starts_one commands =
     sum_by-cons (λ (x : Command). cond {A = ℕ} (starts_one x) 1 0) c commands in
@@ -211,30 +175,27 @@ adds_all names target old new (c ∷ commands) out done =
       starts = omega (arith, first.starts, rest.starts, attempts-cons splits c commands);
     }
 
--- where a wave is full, not even the greatest number of attempts is enough
-pub too_many : (cluster : Cluster) (script : Script) (job : Job) (before later : List Command) (out : List ℕ)
-    →
-    script.commands.items ≡ before ++ command.Wave ∷ later →
+-- where there is no room for the starts of a command, not even the greatest number of attempts is enough
+pub too_many : (cluster : Cluster) (script : Script) (job : Job) (before later : List Command) (c : Command)
+    (out : List ℕ) → script.commands.items ≡ before ++ c ∷ later →
     PerformsAll script.names script.target (opening_job (setup_for cluster script)) before out job →
-    job.setup ≡ setup_for cluster script → (lacks : LacksRoom job) →
-    1000000 < length job.state.starts + length (pairs_of lacks.plan)
-too_many cluster script job before later out are performs same lacks =
+    job.setup ≡ setup_for cluster script → (lacks : LacksRoom job c) →
+    1000000 < length job.state.starts + lacks.count
+too_many cluster script job before later c out are performs same lacks =
     let setup = setup_for cluster script in
     let commands = script.commands.items in
     let splits : ℕ = length cluster.splits in
-    let count : ℕ = length (pairs_of lacks.plan) in
+    let count : ℕ = lacks.count in
     let all = adds_all script.names script.target (opening_job setup) job before out performs in
-    let few : count ≤ splits = omega (
-      arith,
-      best_few job.setup job.state lacks.plan lacks.best,
-      ap (λ (s : Setup). length s.cluster.splits) same,
-    ) in
+    let few : count ≤ allowed splits c =
+    subst (λ (s : Setup). count ≤ allowed (length s.cluster.splits) c) same
+    (may_start_few job c count lacks.may_start) in
     let total : attempts_for splits commands
-    ≡ attempts_for splits before + (allowed splits command.Wave + attempts_for splits later) =
-    ap (attempts_for splits) are ∙ attempts-append splits before (command.Wave ∷ later)
-    ∙ ap (λ (n : ℕ). attempts_for splits before + n) (attempts-cons splits command.Wave later) in
+    ≡ attempts_for splits before + (allowed splits c + attempts_for splits later) =
+    ap (attempts_for splits) are ∙ attempts-append splits before (c ∷ later)
+    ∙ ap (λ (n : ℕ). attempts_for splits before + n) (attempts-cons splits c later) in
     let events : length commands ≡ length before + (1 + length later) =
-    ap length are ∙ length-append before (command.Wave ∷ later) ∙ omega arith in
+    ap length are ∙ length-append before (c ∷ later) ∙ omega arith in
     let full : has_no_room setup job.state count ≡ true =
     subst (λ (s : Setup). has_no_room s job.state count ≡ true) same lacks.full in
     elim (or_cases (is_full setup job.state) _ full) [
@@ -251,33 +212,34 @@ too_many cluster script job before later out are performs same lacks =
           omega (arith, past, all.starts, few, total)
     ]
 
--- a wave that lacks room, after the commands before it
+-- a command whose starts lack room, after the commands before it
 pub runs_out : (script : Script) (commands : List Command) (first job : Job) (i : ℕ) (c : Command)
     (a b : List ℕ) →
     commands ≡ script.commands.items → first ≡ opening_job (setup_for first.setup.cluster script) →
-    i < length commands → c ≡ get_or commands i c → c ≡ command.Wave → job.setup ≡ first.setup →
-    PerformedAll script.names script.target first (take i commands) a b job → LacksRoom job →
+    i < length commands → c ≡ get_or commands i c → job.setup ≡ first.setup →
+    PerformedAll script.names script.target first (take i commands) a b job → LacksRoom job c →
     RunsOut first.setup.cluster script
-runs_out script commands first job i c a b all opening below is wave same played lacks =
+runs_out script commands first job i c a b all opening below is same played lacks =
     let before : List Command = take i commands in
     let later : List Command = drop (i + 1) commands in
-    let are : script.commands.items ≡ before ++ command.Wave ∷ later =
+    let are : script.commands.items ≡ before ++ c ∷ later =
     sym all ∙ sym (take-append-drop i commands)
     ∙ ap (λ (cs : List Command). before ++ cs) (drop_more commands i c below)
-    ∙ ap (λ (x : Command). before ++ x ∷ later) (sym is ∙ wave) in
+    ∙ ap (λ (x : Command). before ++ x ∷ later) (sym is) in
     let performs = subst
     (λ (j : Job). PerformsAll script.names script.target j before played.out job)
     opening played.performs in
     record {
       before = before;
+      full = c;
       later = later;
       commands_are = are;
       out = played.out;
       job = job;
       legal = lacks.legal;
       performs = performs;
-      plan = lacks.plan;
-      best = lacks.best;
-      too_many = too_many first.setup.cluster script job before later played.out are performs
+      count = lacks.count;
+      may_start = lacks.may_start;
+      too_many = too_many first.setup.cluster script job before later c played.out are performs
           (same ∙ ap (λ (j : Job). j.setup) opening) lacks;
     }

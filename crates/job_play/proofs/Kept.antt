@@ -2,7 +2,6 @@
 use Rattle.std.proofs.Common.{◌≡◌, ◌≢◌, inl, inr, ℕ, List, [], ◌∷◌, ◌++◌, refl, sym, ap, ◌∙◌, subst, All}
 use Rattle.std.specs.Prelude.{fold}
 use Rattle.std.proofs.lemmas.List.Elements.{All-push}
-use Rattle.wave_problem.specs.Assignment.{pairs_of}
 use Rattle.worker_table.specs.Workers.{silent_in, swept}
 use Rattle.master_state.specs.declared.answers.Answer.TheVariants as answer
 use Rattle.master_state.specs.declared.states.Start.{Start}
@@ -15,9 +14,9 @@ use Rattle.script_text.specs.declared.script.Names.{Names}
 use Rattle.script_text.specs.declared.script.Command.{Command}
 use Rattle.script_text.specs.declared.script.Command.TheVariants as command
 use Rattle.job_play.specs.Given.{Runs, HasRuns, HoldsRuns}
-use Rattle.job_play.specs.Reports.{Performs, Waves}
+use Rattle.job_play.specs.Reports.{Performs}
 use Rattle.job_play.specs.Playing.{IsAnswered, Performed}
-use Rattle.job_play.proofs.Calls.{is_done}
+use Rattle.job_play.proofs.Calls.{IsStarted, is_done}
 
 -- ---- the starts of which each has its runs in the table
 
@@ -72,19 +71,18 @@ keeps_answered old new call (answer.Accepted place rest) other answers = record 
 }
 keeps_answered old new call (answer.Ignored why rest) other answers = keeps_same old new answers.same
 
-keeps_wave : (names : Names) (old new : Job) (out : List ℕ) → Waves names old out new → Keeps old new
-keeps_wave names old new out waves = record {
-  setup = waves.committed.next.setup;
-  have = λ table have. subst (λ (s : State). Have old.setup table s.starts)
-      (sym waves.committed.change.leads)
-      (have_started old.setup table old.state (pairs_of waves.plan) have);
+keeps_started : (old new : Job) (c : Command) → IsStarted old new c → Keeps old new
+keeps_started old new c started = record {
+  setup = started.next.setup;
+  have = λ table have. subst (λ (s : State). Have old.setup table s.starts) (sym started.leads)
+      (have_started old.setup table old.state started.pairs have);
 }
 
 keeps : (names : Names) (target : ℕ) (old new : Job) (c : Command) (out : List ℕ) → c ≢ command.Reduce →
     Performs names target old c out new → Keeps old new
 keeps names target old new c out other done = elim (is_done names target old new c out done) [
   | inl same ↦ keeps_same old new same
-  | inr (inl wave) ↦ keeps_wave names old new out wave.1
+  | inr (inl started) ↦ keeps_started old new c started
   | inr (inr called) ↦
       keeps_answered old new called.call called.given (called.no_reduce other) called.answers
 ]
@@ -120,7 +118,7 @@ pub performs_setup : (names : Names) (target : ℕ) (old new : Job) (c : Command
     Performs names target old c out new → new.setup ≡ old.setup
 performs_setup names target old new c out done = elim (is_done names target old new c out done) [
   | inl same ↦ ap (λ (j : Job). j.setup) same
-  | inr (inl wave) ↦ wave.1.committed.next.setup
+  | inr (inl started) ↦ started.next.setup
   | inr (inr called) ↦ told_setup old new called.call called.given called.answers
 ]
 

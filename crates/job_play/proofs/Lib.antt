@@ -1,4 +1,5 @@
 pub mod Writing
+pub mod Few
 pub mod Calls
 pub mod Kept
 pub mod Played

@@ -5,7 +5,6 @@ use Rattle.std.specs.List.{flat_map}
 use Rattle.text_lines.specs.Texts.{Word}
 use Rattle.master_state.specs.declared.answers.Answer.TheVariants as answer
 use Rattle.master_state.specs.declared.events.Event.{Event}
-use Rattle.master_state.specs.declared.events.Event.TheVariants as events
 use Rattle.master_state.specs.Refusals.{Call}
 use Rattle.master_state.specs.Jobs.{Answers, IsKept, Job, Plain, event_of}
 use Rattle.master_state.proofs.Steps.{step_of_change}
@@ -21,8 +20,8 @@ use Rattle.script_text.specs.declared.script.Names.{Names}
 use Rattle.script_text.specs.declared.script.Command.{Command}
 use Rattle.job_play.specs.Pasts.{past_at}
 use Rattle.job_play.specs.Playing.{Performed}
-use Rattle.job_play.specs.Reports.{Performs, Waves}
-use Rattle.job_play.proofs.Calls.{is_done}
+use Rattle.job_play.specs.Reports.{Performs}
+use Rattle.job_play.proofs.Calls.{IsStarted, is_done}
 use Rattle.job_play.proofs.Made.{performed_behind}
 
 -- the history and the counts of sweeps go on
@@ -50,22 +49,19 @@ grows_answered old new call (answer.Accepted place rest) answers = record {
 }
 grows_answered old new call (answer.Ignored why rest) answers = grows_same old new answers.same
 
-grows_wave : (names : Names) (old new : Job) (out : List ℕ) → Waves names old out new → Grows old new
-grows_wave names old new out waves =
-    let wave = waves.wave in
-    record {
-      setup = waves.committed.next.setup;
-      later = events.Wave wave.first wave.count wave.cost ∷ [];
-      history = waves.committed.next.history;
-      sweeps = step_goes_on old.setup old.state (events.Wave wave.first wave.count wave.cost) new.state
-          (waves.plan, waves.committed.change);
-    }
+grows_started : (old new : Job) (c : Command) → IsStarted old new c → Grows old new
+grows_started old new c started = record {
+  setup = started.next.setup;
+  later = started.event ∷ [];
+  history = started.next.history;
+  sweeps = step_goes_on old.setup old.state started.event new.state started.step;
+}
 
 grows : (names : Names) (target : ℕ) (old new : Job) (c : Command) (out : List ℕ) →
     Performs names target old c out new → Grows old new
 grows names target old new c out done = elim (is_done names target old new c out done) [
   | inl same ↦ grows_same old new same
-  | inr (inl wave) ↦ grows_wave names old new out wave.1
+  | inr (inl started) ↦ grows_started old new c started
   | inr (inr called) ↦ grows_answered old new called.call called.given called.answers
 ]
 

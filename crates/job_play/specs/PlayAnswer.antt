@@ -61,7 +61,7 @@ abbrev pub PlayAnswer : List ℕ → Result PlayEnd TextFault → List ℕ → T
 PlayAnswer text (Ok end) lines = PlaysRead text end lines
 PlayAnswer text (Err fault) line = IsFaulty Playing text fault line
 
--- of the script that the text declares, a wave may start more than there are attempts left
+-- of the script that the text declares, a wave or a plan ahead may start more than there are attempts left
 pub record RunsOutIn (text : List ℕ) : Type 0 where
   pub known : Known
   pub script : Script

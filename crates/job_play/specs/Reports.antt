@@ -2,7 +2,7 @@
 use Rattle.std.specs.Prelude.{ℕ, ◌≡◌, ◌+◌, ◌-◌, true, false, List, [], ◌∷◌, ◌++◌, length}
 use Rattle.std.specs.Prelude.{replicate, take, Option, Some, None}
 use Rattle.node_ids.specs.Sets.{row_of_all}
-use Rattle.wave_problem.specs.Assignment.{IsBest, pairs_of}
+use Rattle.wave_problem.specs.Assignment.{IsBest, pairs_of, total}
 use Rattle.text_lines.specs.Texts.{Word}
 use Rattle.word_map.specs.Texts.{SplitDocuments}
 use Rattle.word_map.specs.Entries.{EntryView}
@@ -21,16 +21,17 @@ use Rattle.master_state.specs.States.{Setup, next_attempt, opening, start_of}
 use Rattle.master_state.specs.Tests.{all_parts_done, next_part, next_worker}
 use Rattle.master_state.specs.Refusals.{Call, MapDone, MapFailed, Withdraw, Die, Join, Add, Lose, Sweep}
 use Rattle.master_state.specs.Refusals.{ReduceStart, PartDone, PartFailed, Backup, has_no_room, split_text}
-use Rattle.master_state.specs.Steps.{IsLegal, problem_of}
-use Rattle.master_state.specs.Jobs.{Job, Answers, IsCommitted, IsKept, died_in, Plain}
+use Rattle.master_state.specs.Steps.{AreHeads, IsLegal, problem_of, with_places}
+use Rattle.master_state.specs.Jobs.{Job, Answers, IsCommitted, IsCommittedAhead, IsKept, died_in, Plain}
 use Rattle.script_text.specs.Commands.{IsKnownIn}
 use Rattle.script_text.specs.declared.script.Names.{Names}
 use Rattle.script_text.specs.declared.script.Script.{Script}
 use Rattle.script_text.specs.declared.script.Command.{Command}
 use Rattle.script_text.specs.declared.script.Command.TheVariants as command
-use Rattle.report_lines.specs.Lines.{accepted_line, ignored_line, started_line, backup_line}
+use Rattle.report_lines.specs.Lines.{accepted_line, ahead_line, ignored_line, queued_line, started_line}
 use Rattle.text_lines.specs.WaveLine.{wave_line}
-use Rattle.report_lines.specs.Lines.{reduce_line, dead_lines, copy_lines, index_lines, stuck_lines}
+use Rattle.report_lines.specs.Lines.{backup_line, reduce_line, dead_lines, copy_lines, index_lines}
+use Rattle.report_lines.specs.Lines.{stuck_lines}
 use Rattle.job_play.specs.declared.player.PlayEnd.{PlayEnd}
 use Rattle.job_play.specs.declared.player.PlayEnd.TheVariants as finish
 
@@ -70,6 +71,22 @@ pub record Waves (names : Names) (old : Job) (out : List ℕ) (new : Job) : Type
   pub committed : IsCommitted old plan wave new
   pub out_is : out ≡ accepted_line wave.place ++ wave_line wave.count wave.cost
       ++ started_lines names wave.first (pairs_of plan)
+
+-- how many splits a plan onto these places has, at which byte-distance
+abbrev pub queued_of : Job → List ℕ → List (Option ℕ) → List ℕ
+queued_of old asked plan =
+    queued_line (length (pairs_of plan))
+    (total (with_places asked (problem_of old.setup old.state)) (pairs_of plan))
+
+-- the heads of some best plan onto these places are started, and the lines tell their count and cost, those
+-- of the whole plan, and each of the starts
+pub record Aheads (names : Names) (asked : List ℕ) (old : Job) (out : List ℕ) (new : Job) : Type 0 where
+  pub plan : List (Option ℕ)
+  pub starts : List (Option ℕ)
+  pub wave : Wave
+  pub committed : IsCommittedAhead old asked plan starts wave new
+  pub out_is : out ≡ accepted_line wave.place ++ ahead_line wave.count wave.cost ++ queued_of old asked plan
+      ++ started_lines names wave.first (pairs_of starts)
 
 -- ---- completions and failures
 
@@ -124,6 +141,7 @@ pub record Copies (names : Names) (target : ℕ) (old : Job) (out : List ℕ) (n
 -- in the old state the command is answered by these lines, and leads to the new one
 abbrev pub Performs : Names → ℕ → Job → Command → List ℕ → Job → Type 0
 Performs names target old command.Wave out new = Waves names old out new
+Performs names target old (command.Ahead places) out new = Aheads names places.items old out new
 Performs names target old (command.Done a) out new = Does old a (start_of old.state a) out new
 Performs names target old (command.Fail a) out new = FailsAttempt old a (start_of old.state a) out new
 Performs names target old (command.Withdraw a) out new = IsTold old (Withdraw a) alone out new
@@ -179,14 +197,25 @@ pub record IsReport (setup : Setup) (script : Script) (finish : PlayEnd) (out : 
   pub ends : EndsReport script.names last finish ending
   pub out_is : out ≡ answers ++ ending
 
--- the command names workers and splits of the cluster of the job, and gives no more counts than there may be
--- workers
+-- the command names workers and splits of the cluster of the job, and gives no more counts or places than
+-- there may be
 abbrev pub IsKnownCommand : Setup → Command → Type 0
 IsKnownCommand setup c = IsKnownIn (length setup.cluster.slots) (length setup.cluster.splits) c
 
--- the state is one of a legal history, and a best plan of it starts more than the job has room for
-pub record LacksRoom (old : Job) : Type 0 where
+-- the command may make so many starts: those of a best plan, or the heads of a best plan onto queues
+abbrev pub MayStart : Job → Command → ℕ → Type 0
+MayStart old command.Wave count =
+    (plan : List (Option ℕ)) × IsBest (problem_of old.setup old.state) (pairs_of plan)
+    × (count ≡ length (pairs_of plan))
+MayStart old (command.Ahead places) count =
+    (plan : List (Option ℕ)) × (starts : List (Option ℕ))
+    × IsBest (with_places places.items (problem_of old.setup old.state)) (pairs_of plan)
+    × AreHeads (problem_of old.setup old.state).workers plan starts × (count ≡ length (pairs_of starts))
+MayStart old c count = ⊥
+
+-- the state is one of a legal history, and the command may start more than the job has room for
+pub record LacksRoom (old : Job) (c : Command) : Type 0 where
   pub legal : IsLegal old.setup old.history old.state
-  pub plan : List (Option ℕ)
-  pub best : IsBest (problem_of old.setup old.state) (pairs_of plan)
-  pub full : has_no_room old.setup old.state (length (pairs_of plan)) ≡ true
+  pub count : ℕ
+  pub may_start : MayStart old c count
+  pub full : has_no_room old.setup old.state count ≡ true

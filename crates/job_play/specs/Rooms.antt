@@ -1,20 +1,20 @@
 -- The room that a script needs.
-use Rattle.std.specs.Prelude.{ℕ, ◌≡◌, ◌≤◌, ◌+◌, ◌*◌, ◌<◌, ◌++◌, ◌∷◌, Bool, true, false, Option, List, length}
+use Rattle.std.specs.Prelude.{ℕ, ◌≡◌, ◌≤◌, ◌+◌, ◌*◌, ◌<◌, ◌++◌, ◌∷◌, Bool, true, false, List, length}
 use Rattle.std.specs.Prelude.{min, count_by, All}
-use Rattle.wave_problem.specs.Assignment.{IsBest, pairs_of}
 use Rattle.master_state.specs.declared.states.Limits.{Limits}
 use Rattle.master_state.specs.States.{Cluster, Setup}
 use Rattle.script_text.specs.declared.script.Command.{Command}
 use Rattle.script_text.specs.declared.script.Command.TheVariants as command
 use Rattle.script_text.specs.declared.script.Script.{Script}
-use Rattle.job_play.specs.Reports.{IsKnownCommand, PerformsAll, opening_job}
+use Rattle.job_play.specs.Reports.{IsKnownCommand, MayStart, PerformsAll, opening_job}
 use Rattle.master_state.specs.Jobs.{Job}
-use Rattle.master_state.specs.Steps.{IsLegal, problem_of}
+use Rattle.master_state.specs.Steps.{IsLegal}
 
--- what a command may start: a wave each split, a backup and a reduce one attempt
-abbrev pub is_wave : Command → Bool
-is_wave command.Wave = true
-is_wave c = false
+-- what a command may start: a wave and a plan ahead each split, a backup and a reduce one attempt
+abbrev pub starts_many : Command → Bool
+starts_many command.Wave = true
+starts_many (command.Ahead places) = true
+starts_many c = false
 
 abbrev pub starts_one : Command → Bool
 starts_one command.Reduce = true
@@ -27,7 +27,7 @@ is_sweep c = false
 
 -- as many attempts as the commands may start, but no more than a master may have
 abbrev pub attempts_for : ℕ → List Command → ℕ
-attempts_for splits commands = splits * count_by is_wave commands + count_by starts_one commands
+attempts_for splits commands = splits * count_by starts_many commands + count_by starts_one commands
 
 abbrev pub limits_for : ℕ → List Command → Limits
 limits_for splits commands = record {
@@ -50,17 +50,18 @@ pub record IsScriptFor (setup : Setup) (script : Script) : Type 0 where
   pub known : All (IsKnownCommand setup) script.commands.items
   pub few : length script.commands.items ≤ 1048576
 
--- A legal history answers the commands before a wave, and leaves fewer of the greatest number of attempts
--- than some best plan starts there.
+-- A legal history answers the commands before a wave or a plan ahead, and leaves fewer of the greatest number
+-- of attempts than this one may start there.
 pub record RunsOut (cluster : Cluster) (script : Script) : Type 0 where
   pub before : List Command
+  pub full : Command
   pub later : List Command
-  pub commands_are : script.commands.items ≡ before ++ command.Wave ∷ later
+  pub commands_are : script.commands.items ≡ before ++ full ∷ later
   pub out : List ℕ
   pub job : Job
   pub legal : IsLegal job.setup job.history job.state
   pub performs : PerformsAll script.names script.target (opening_job (setup_for cluster script)) before out
       job
-  pub plan : List (Option ℕ)
-  pub best : IsBest (problem_of job.setup job.state) (pairs_of plan)
-  pub too_many : 1000000 < length job.state.starts + length (pairs_of plan)
+  pub count : ℕ
+  pub may_start : MayStart job full count
+  pub too_many : 1000000 < length job.state.starts + count

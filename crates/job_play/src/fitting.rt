@@ -1,4 +1,4 @@
-ghost use Rattle.std.specs.Prelude.{◌↔◌, ◌<◌, All, IsTrue, length};
+ghost use Rattle.std.specs.Prelude.{◌↔◌, ◌<◌, ◌≤◌, All, IsTrue, length};
 ghost use Rattle.script_text.specs.Commands.{IsKnownIn};
 ghost use Rattle.job_play.specs.Rooms.{IsScriptFor, setup_for};
 
@@ -28,7 +28,8 @@ fn are_known(workers: usize, splits: usize, commands: &[Command]) -> bool
         .all(|command| is_known(workers, splits, command))
 }
 
-// Whether the command names workers and splits below these numbers.
+// Whether the command names workers and splits below these numbers, and gives no more counts or places than
+// there may be.
 fn is_known(workers: usize, splits: usize, command: &Command) -> bool
     ensures { IsTrue result ↔ IsKnownIn workers splits command.now }
 {
@@ -38,9 +39,17 @@ fn is_known(workers: usize, splits: usize, command: &Command) -> bool
         | Command::Lose(split, worker) => { split.index() < splits && worker.index() < workers }
         Command::Die(worker) => worker.index() < workers,
         Command::Join(worker, set) => worker.index() < workers && are_below(splits, set.as_slice()),
+        Command::Ahead(places) => are_places(places.as_slice()),
         Command::Sweep(counts) => counts.len() <= 32_768,
         _ => true,
     }
+}
+
+// Whether there may be so many workers, each with so many places.
+fn are_places(places: &[u64]) -> bool
+    ensures { IsTrue result ↔ ((length places.now ≤ 32768) × All (λ n. n ≤ 255) places.now) }
+{
+    places.len() <= 32_768 && places.iter().all(|count| *count <= 255)
 }
 
 fn are_below(splits: usize, set: &[SplitNo]) -> bool

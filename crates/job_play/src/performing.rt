@@ -1,4 +1,6 @@
 ghost use Rattle.std.specs.Prelude.{◌≡◌, ◌≢◌, ℕ, ◌<◌, ◌≤◌, All, Err, OnOk, length, string_bytes};
+ghost use Rattle.std.specs.declared.alloc.Global.{Global};
+ghost use Rattle.std.specs.declared.vec.Vec.{Vec};
 ghost use Rattle.report_lines.specs.Reports.{report_bytes};
 ghost use Rattle.script_text.specs.declared.script.Command.TheVariants as asked;
 ghost use Rattle.node_ids.specs.Sets.{row_of_all};
@@ -13,7 +15,7 @@ use crate::given::GivenRuns;
 use crate::handing::{done, fail};
 use crate::player::PlayError;
 use crate::tables::counts_for;
-use crate::waves::wave;
+use crate::waves::{ahead, wave};
 use master_core::Master;
 use master_state::{Answer, Why};
 use node_ids::{SplitNo, SplitSet, WorkerNo};
@@ -39,12 +41,13 @@ pub fn perform(
     ensures given { OnOk result (HoldsRuns given.new master.new) }
     ensures ok { OnOk result (Performed script.now.names script.now.target master.old command.now
         (string_bytes lines.old) (string_bytes lines.new) master.new) }
-    ensures full { result ≡ Err PlayError.HistoryFull → (command.now ≡ asked.Wave) × LacksRoom master.old }
+    ensures full { result ≡ Err PlayError.HistoryFull → LacksRoom master.old command.now }
     ensures unchanged { result ≡ Err PlayError.HistoryFull → (master.new ≡ master.old)
         × (given.new ≡ given.old) × (string_bytes lines.new ≡ string_bytes lines.old) }
 {
     match command {
         Command::Wave => wave(alloc, master, &script.names, lines),
+        Command::Ahead(places) => ahead(alloc, master, &script.names, places, lines),
         Command::Reduce => Ok(reduce(alloc, master, given, &script.names, lines)?),
         _ => Ok(tell(alloc, master, given, script, command, lines)?),
     }
@@ -69,7 +72,7 @@ pub(crate) fn perform_in_report(
         (past_at master.old script.now.target) lines.old)
         (report_bytes script.now.names.splits script.now.names.workers
         (past_at master.new script.now.target) lines.new) master.new) }
-    ensures full { result ≡ Err PlayError.HistoryFull → (command.now ≡ asked.Wave) × LacksRoom master.old }
+    ensures full { result ≡ Err PlayError.HistoryFull → LacksRoom master.old command.now }
 {
     lines.are_in_turn();
     master.is_kept();
@@ -96,7 +99,7 @@ fn keep_copies(
     lines.add_copies(alloc, master.copy_count(target), master.events())
 }
 
-// Performs a command that starts neither a wave nor a part, and tells what was answered.
+// Performs a command that starts neither a wave, nor a plan ahead, nor a part, and tells what was answered.
 fn tell(
     alloc: Global,
     master: &mut Master,
@@ -105,7 +108,9 @@ fn tell(
     command: &Command,
     lines: &mut String,
 ) -> Result<(), AllocError>
-    requires kind { (command.now ≢ asked.Wave) × (command.now ≢ asked.Reduce) }
+    requires wave { command.now ≢ asked.Wave }
+    requires ahead { (places : Vec ℕ Global) → command.now ≢ asked.Ahead places }
+    requires reduce { command.now ≢ asked.Reduce }
     requires known { IsKnownCommand master.old.setup command.now }
     requires given { HoldsRuns given.now master.old }
     ensures { OnOk result (Performed script.now.names script.now.target master.old command.now
@@ -123,7 +128,7 @@ fn tell(
         Command::Lose(split, worker) => add_answer(lines, master.lose(*split, *worker)),
         Command::Sweep(counts) => sweep(alloc, master, names, counts.as_slice(), lines),
         Command::Copies => copies(alloc, master, names, script.target, lines),
-        Command::Wave | Command::Reduce => unreachable!(),
+        Command::Wave | Command::Ahead(_) | Command::Reduce => unreachable!(),
     }
 }
 

@@ -29,7 +29,7 @@ pub enum PlayEnd {
 pub enum PlayError {
     #[error("no memory")]
     Memory,
-    /// A wave starts more splits than the master has attempts left.
+    /// A wave or a plan ahead starts more splits than the master has attempts left.
     #[error("a wave starts more than there is room for")]
     HistoryFull,
 }

@@ -1,7 +1,7 @@
 ghost use Rattle.std.specs.Prelude.{◌≡◌, ◌≤◌, count_by, length};
 ghost use Rattle.wave_problem.specs.declared.TheConstants.{MAX_SPLITS};
 ghost use Rattle.master_state.specs.States.{AreAllowed};
-ghost use Rattle.job_play.specs.Rooms.{is_sweep, is_wave, limits_for, starts_one};
+ghost use Rattle.job_play.specs.Rooms.{is_sweep, limits_for, starts_many, starts_one};
 
 use master_state::Limits;
 use script_text::Command;
@@ -13,14 +13,14 @@ pub const MAX_COMMANDS: usize = 1_048_576;
 pub const MAX_ATTEMPTS: usize = 1_000_000;
 
 /// The room that the commands need on so many splits: an event for each, and an attempt for each split at
-/// each wave, for each backup and for each reduce.
+/// each wave and each plan ahead, for each backup and for each reduce.
 pub fn limits_for(splits: usize, commands: &[Command]) -> Limits
     requires splits { splits ≤ MAX_SPLITS }
     requires commands { length commands.now ≤ 1048576 }
     ensures value { result ≡ limits_for splits commands.now }
     ensures small { AreAllowed result }
 {
-    let attempts = splits * waves(commands) + single_starts(commands);
+    let attempts = splits * many_starts(commands) + single_starts(commands);
     Limits {
         events: commands.len() as u32,
         attempts: attempts.min(MAX_ATTEMPTS) as u32,
@@ -28,17 +28,20 @@ pub fn limits_for(splits: usize, commands: &[Command]) -> Limits
     }
 }
 
-fn waves(commands: &[Command]) -> usize
-    ensures count { result ≡ count_by is_wave commands.now }
+fn many_starts(commands: &[Command]) -> usize
+    ensures count { result ≡ count_by starts_many commands.now }
     ensures most { result ≤ length commands.now }
 {
-    commands.iter().filter(|command| is_wave(command)).count()
+    commands
+        .iter()
+        .filter(|command| starts_many(command))
+        .count()
 }
 
-fn is_wave(command: &Command) -> bool
-    ensures { result ≡ is_wave command.now }
+fn starts_many(command: &Command) -> bool
+    ensures { result ≡ starts_many command.now }
 {
-    matches!(command, Command::Wave)
+    matches!(command, Command::Wave | Command::Ahead(_))
 }
 
 fn single_starts(commands: &[Command]) -> usize

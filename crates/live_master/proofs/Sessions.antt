@@ -250,16 +250,15 @@ live_started old new before now a wave found certified committed written last he
   head = head;
 }
 
--- a wave without room is ignored
-pub live_ignored : (old new : Session) (before now : List ℕ) → LacksRoom old.master → new.master ≡ old.master
-    → new.last ≡ old.last → now ≡ before ++ ignored_line HistoryFull
+-- a command whose starts have no room is ignored
+pub live_ignored : (old new : Session) (c : Command) (before now : List ℕ) → LacksRoom old.master c
+    → new.master ≡ old.master → new.last ≡ old.last → now ≡ before ++ ignored_line HistoryFull
     → live_of new ≡ record (live_of old) { job = new.master; last = option_map claim_of new.last }
-    → PerformedLive old command.Wave before now new
-live_ignored old new before now lacks same last written head = record {
+    → PerformedLive old c before now new
+live_ignored old new c before now lacks same last written head = record {
   out = ignored_line HistoryFull;
   written = written;
   performs = inr (inl (
-    refl,
     record { lacks = lacks; out_is = refl; unchanged = same },
     ap (option_map claim_of) last,
   ));

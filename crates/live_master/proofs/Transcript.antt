@@ -55,7 +55,7 @@ performs_job old new c out (inl (is, starts)) =
       committed = starts.committed;
       out_is = starts.out_is;
     }))
-performs_job old new c out (inr (inl (is, ignores, kept))) = inr (is, ignores)
+performs_job old new c out (inr (inl (ignores, kept))) = inr ignores
 performs_job old new c out (inr (inr (other, performs, kept))) = inl performs
 
 module _ (line : Line) (answer : List ℕ) (said : Said) (old mid new : Live) (s : IsSession mid said new)

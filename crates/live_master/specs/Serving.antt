@@ -114,16 +114,16 @@ pub record IsOpen (s : Session) : Type 0 where
 
 -- ---- one line
 
--- a wave of which a best plan starts more than there is room for is ignored for that
-pub record IgnoresWave (old : Job) (out : List ℕ) (new : Job) : Type 0 where
-  pub lacks : LacksRoom old
+-- a wave or a plan ahead that may start more than there is room for is ignored for that
+pub record IgnoresFull (old : Job) (c : Command) (out : List ℕ) (new : Job) : Type 0 where
+  pub lacks : LacksRoom old c
   pub out_is : out ≡ ignored_line HistoryFull
   pub unchanged : new ≡ old
 
--- a command is answered as in a script, but for a wave that has no room
+-- a command is answered as in a script, but for one whose starts have no room
 abbrev pub PerformsLive : Names → ℕ → Job → Command → List ℕ → Job → Type 0
 PerformsLive names target old c out new =
-    Performs names target old c out new ⊎ ((c ≡ command.Wave) × IgnoresWave old out new)
+    Performs names target old c out new ⊎ IgnoresFull old c out new
 
 -- a best wave is started, and is the last one
 pub record StartsWave (old : Live) (out : List ℕ) (new : Live) : Type 0 where
@@ -135,10 +135,10 @@ pub record StartsWave (old : Live) (out : List ℕ) (new : Live) : Type 0 where
   pub out_is : out ≡ wave_lines old.names shown.starts wave
   pub last : new.last ≡ Some shown
 
--- a command is performed: a wave that starts, a wave without room, or another one
+-- a command is performed: a wave that starts, a command whose starts have no room, or another one
 abbrev pub PerformsIn : Live → Command → List ℕ → Live → Type 0
 PerformsIn old c out new = ((c ≡ command.Wave) × StartsWave old out new)
-    ⊎ (((c ≡ command.Wave) × IgnoresWave old.job out new.job × (new.last ≡ old.last))
+    ⊎ ((IgnoresFull old.job c out new.job × (new.last ≡ old.last))
     ⊎ ((c ≢ command.Wave) × Performs old.names old.target old.job c out new.job × (new.last ≡ old.last)))
 
 -- the line says a command, without a fault, and it is performed

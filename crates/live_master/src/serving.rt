@@ -288,7 +288,7 @@ impl<'t> Session<'t> {
         }
     }
 
-    // Performs a command; a wave for which there is no room is ignored.
+    // Performs a command; a wave or a plan ahead for which there is no room is ignored.
     fn perform(
         &mut self,
         alloc: Global,
@@ -308,7 +308,7 @@ impl<'t> Session<'t> {
         match perform(alloc, master, given, &self.script, command, answer) {
             Ok(()) => Ok(()),
             Err(PlayError::Memory) => Err(AllocError),
-            Err(PlayError::HistoryFull) => unreachable!(),
+            Err(PlayError::HistoryFull) => add_ignored(answer, Why::HistoryFull),
         }
     }
 

@@ -64,6 +64,26 @@ fn a_script_does_not_fit_a_cluster_of_more_workers(rt: HostRuntime) {
     assert!(rt; played(rt.alloc(), script, cluster).is_none());
 }
 
+// The second split waits for its holder until the first one is done; a wave would move it.
+// (The report is worked by hand, and scripts/reference_play.py finds nothing wrong with it.)
+#[test]
+fn a_plan_ahead_starts_its_heads(rt: HostRuntime) {
+    let head =
+        "script 3\ncentre z\nrack r z\nworker a r 1\nworker b r 1\nsplit s 10 a\nsplit t 5 a\n\
+                doc d s one\ndoc e t two\nbegin\n";
+    let commands = "ahead 2 0\ndone 1\nahead 2 0\ndone 2\nreduce\ndone 3\nend\n";
+    let script = format!(in rt.alloc(); "{head}{commands}").expect(&rt, "no memory");
+    let (end, lines) = played(rt.alloc(), script.as_str(), script.as_str()).expect(
+        &rt,
+        "not played",
+    );
+    let wanted = "accepted 1\nahead 1 0\nqueued 2 0\nstart 1 s a\naccepted 2\n\
+                  accepted 3\nahead 1 0\nqueued 1 0\nstart 2 t a\naccepted 4\n\
+                  accepted 5\nreduce 3 0 a\naccepted 6\nindex 2\nword one d\nword two e\n";
+    assert_eq!(rt; end, PlayEnd::Done);
+    assert_eq!(rt; lines.as_slice(), wanted.as_bytes());
+}
+
 // (The report is worked by hand, and scripts/reference_play.py finds nothing wrong with it.)
 #[test]
 fn copies_are_those_of_their_place(rt: HostRuntime) {

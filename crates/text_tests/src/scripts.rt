@@ -56,7 +56,7 @@ fn faults_of_scripts(rt: HostRuntime) {
 }
 
 // Texts of each kind, with the fault that each has.
-const TEXTS: [(Purpose, &str, Option<(u32, u8)>); 20] = [
+const TEXTS: [(Purpose, &str, Option<(u32, u8)>); 26] = [
     (
         Purpose::Playing,
         "script 1\nrack r\nworker a r 1\nbegin\nsweep 1 2\nend\n",
@@ -79,6 +79,36 @@ const TEXTS: [(Purpose, &str, Option<(u32, u8)>); 20] = [
         Purpose::Playing,
         "script 2\ncentre x\nrack x x\n",
         Some((3, 4)),
+    ),
+    (
+        Purpose::Playing,
+        "script 3\ncentre x\nrack r x\nworker a r 1\nbegin\nahead 0\nahead 255\nend\n",
+        None,
+    ),
+    (
+        Purpose::Playing,
+        "script 3\ncentre x\nrack r x\nworker a r 1\nbegin\nahead 256\nend\n",
+        Some((6, 5)),
+    ),
+    (
+        Purpose::Playing,
+        "script 3\ncentre x\nrack r x\nworker a r 1\nbegin\nahead\nend\n",
+        Some((6, 1)),
+    ),
+    (
+        Purpose::Playing,
+        "script 3\ncentre x\nrack r x\nworker a r 1\nbegin\nahead 1 1\nend\n",
+        Some((6, 1)),
+    ),
+    (
+        Purpose::Playing,
+        "script 3\ncentre x\nrack r x\nworker a r 1\nahead 1\nbegin\nend\n",
+        Some((5, 7)),
+    ),
+    (
+        Purpose::Playing,
+        "script 2\ncentre x\nrack r x\nworker a r 1\nbegin\nahead 1\nend\n",
+        Some((6, 7)),
     ),
     (Purpose::Running, "job 1\nparts 2\nend\n", None),
     (Purpose::Running, "job 1\nbegin\nend\n", Some((2, 7))),

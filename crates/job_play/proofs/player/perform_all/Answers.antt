@@ -21,8 +21,8 @@ pub returns-in_err-perform_in_report-clause-full : goal.returns-in_err-perform_i
 returns-in_err-perform_in_report-clause-full g c full =
     let left = c.from_residual-in_err-perform_in_report in
     let is = err_is left.result c.in_err-perform_in_report.field-0.0 left.ensures.1 in
-    let wave = c.in_err-perform_in_report.ensures.full (sym is ∙ full) in
+    let lacks = c.in_err-perform_in_report.ensures.full (sym is ∙ full) in
     runs_out c.args.script.now c.deref-command-items.result.now c.args.master.now _
     c.loop-command.command-index
-    c.command-item.result _ _ (search rules) c.requires.opening (search rules) c.command-item.is wave.0
-    c.loop-command.invariant.setup c.loop-command.invariant.performed wave.1
+    c.command-item.result _ _ (search rules) c.requires.opening (search rules) c.command-item.is
+    c.loop-command.invariant.setup c.loop-command.invariant.performed lacks
