@@ -27,7 +27,7 @@ from .topology import Racks, Topology
 
 MOST_TRIES = 4  # so often a call may raise
 MOST_DEATHS = 3  # and on so many workers it may be running as they die
-GATHER = 0.005  # seconds that are waited for more ends, once a call has ended: those that began together end so
+GATHER = 0.005  # seconds for which the loop waits for further ends: calls that began together end together
 GRACE = 30.0  # seconds for which a split may be without a holder, as while a nanny restarts its worker
 ENDS = {"failed": calls.fail, "lost": calls.withdraw}  # as the master is told of them
 
@@ -75,11 +75,11 @@ class Placing:
         self.mark = f"-{uuid.uuid4().hex[:8]}-"
         self.key = f"mrjob-map{self.mark}"
         self.going: list[Attempt] = []  # attempts that run, or whose outputs count
-        self.running: list[Attempt] = []  # those that run
+        self.running: list[Attempt] = []  # attempts that run
         self.maps: dict[str, Attempt] = {}  # of each split one of the attempts that go on
         self.numbers = {split: number for number, split in enumerate(splits.bytes)}
         self.pending = Pending({}, self.numbers)  # splits that no call was begun for, as they were seen last
-        self.unseen = [*splits.bytes]  # and those that were not seen yet
+        self.unseen = [*splits.bytes]  # splits whose holders were not asked for yet
         self.sees_all_at = 0.0  # when the holders of all pending splits are asked for again
         self.waiting: list[Start] = []  # the master's starts that wait for a thread
         self.late: list[Attempt] = []  # attempts that go on although their splits are done

@@ -70,7 +70,7 @@ def wave_of(places: dict[str, Place], slots: Mapping[str, int], splits: dict[str
         if number > most:
             raise Unfit(f"there are {number} {kind}, and a wave has at most {most}")
     free = {worker: min(SLOTS, slots.get(worker, 0)) for worker in places}
-    # (of pending splits those that have to be known are taken as they are planned)
+    # (`Pending` tells the planner which splits a plan has to know of)
     return Wave(places, free, splits if isinstance(splits, Pending) else first_splits(splits, free))
 
 
