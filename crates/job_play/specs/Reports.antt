@@ -202,7 +202,7 @@ pub record IsReport (setup : Setup) (script : Script) (finish : PlayEnd) (out : 
 abbrev pub IsKnownCommand : Setup → Command → Type 0
 IsKnownCommand setup c = IsKnownIn (length setup.cluster.slots) (length setup.cluster.splits) c
 
--- the command may make so many starts: those of a best plan, or the heads of a best plan onto queues
+-- the count is the number of starts of some best plan, or of the heads of some best plan onto the queues
 abbrev pub MayStart : Job → Command → ℕ → Type 0
 MayStart old command.Wave count =
     (plan : List (Option ℕ)) × IsBest (problem_of old.setup old.state) (pairs_of plan)

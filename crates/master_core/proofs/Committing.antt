@@ -31,7 +31,7 @@ no_room_in j count = has_no_room j.setup j.state count
 abbrev assigned_in : Job → List (ℕ × ℕ) → Type 0
 assigned_in j pairs = IsAssignment (problem_of j.setup j.state) pairs
 
--- the pairs of an assignment may start, and so may those of a plan that is best
+-- the pairs of an assignment may start, and so may the pairs of a best plan
 pub assigned_may_start : {m : Inside} {j : Job} {pairs : List (ℕ × ℕ)} {count : ℕ} → IsMaster m →
     job_of m ≡ j → assigned_in j pairs → count ≡ length pairs → no_room_in j count ≡ false →
     MayStart m.workers (map shown_as m.splits.items) pairs

@@ -10,7 +10,7 @@ use Rattle.master_core.proofs.Queueing.{queue_within}
 use Rattle.master_core.proofs.master.Master.queue_problem.Goals.{After-deref-2}
 use Rattle.master_core.proofs.master.Master.queue_problem.Goals as goal
 
--- (the lines are those of the workers, with queues)
+-- the parts of the present problem: the workers' lines have no queues yet
 parts_are : (c : After-deref-2) →
     AreParts c.self.inside c.in_ok-tree.tree (map worker_line c.self.inside.workers.each) c.deref-2.result.now
     c.in_ok-barred.barred
