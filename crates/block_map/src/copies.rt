@@ -10,7 +10,7 @@ use rack_tree::RackTree;
 use std::alloc::{AllocError, Global};
 use worker_table::WorkerTable;
 
-/// The copies of all splits, by rising split.
+/// The copy of each split that wants one, by rising split.
 pub(crate) fn copy_orders(
     alloc: Global,
     blocks: &BlockMap,
@@ -32,7 +32,7 @@ pub(crate) fn copy_orders(
     Ok(orders)
 }
 
-/// How many copies that are.
+/// How many copies `copy_orders` answers.
 pub(crate) fn copy_count(blocks: &BlockMap, table: &WorkerTable, target: usize) -> usize
     ensures { (tree : Tree)
         → result ≡ length (all_copies (holdings table.now tree blocks.now target)) }

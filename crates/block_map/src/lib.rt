@@ -31,9 +31,9 @@ use worker_table::WorkerTable;
 /// To how many holders a split may grow. It may have up to 16 at first, whatever the limit.
 #[derive(Clone, Copy, Debug, PartialEq, Eq)]
 pub enum HolderLimit {
-    /// 8, as in scripts of versions 1 and 2.
+    /// 8, as in scripts and jobs of versions 1 and 2.
     Eight,
-    /// 16, as in scripts of version 3.
+    /// 16, as in scripts and jobs of version 3.
     Sixteen,
 }
 
@@ -223,7 +223,7 @@ impl BlockMap {
         copies::copy_orders(alloc, self, workers, tree, target)
     }
 
-    /// How many copies that are.
+    /// How many copies `copy_orders` answers.
     pub fn copy_count(&self, workers: &WorkerTable, target: usize) -> usize
         ensures { (tree : Tree)
             → result ≡ length (all_copies (holdings workers.now tree self.now target)) }

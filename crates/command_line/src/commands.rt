@@ -10,7 +10,7 @@ pub(crate) const VERSION: &str = "1.1.0";
 
 const ABOUT: &str = "\
 Plans the map starts of a MapReduce job at the least byte-distance, certifies plans by prices, plays
-scripts of a job, and runs jobs on threads";
+scripts of a job, serves a live master, and runs jobs on threads";
 
 const STATUSES: &str = "\
 Statuses:
@@ -22,7 +22,9 @@ Statuses:
   5   a wave of a script starts more splits than there are attempts left, or a job has no place left
       for an event, a sweep or an attempt
   6   a job's history is not made of its threads' calls, or a thread could not be started
-  64  the words of the command line are wrong
+  64  the words of the command line are wrong, or a direct network of more than 1,024 splits or 256
+      workers was asked for
+  141 the reader of the answer has gone
 
 Examples:
   mrjob plan --prices < examples/plan_swap.txt

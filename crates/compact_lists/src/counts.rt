@@ -134,7 +134,7 @@ impl CountList {
     }
 }
 
-// The counts are a base more, where 16 bits do not tell of each how much it is above that of the last base.
+// Adds the counts as another base, unless each of them is above the last base's count by less than 65,536.
 fn fit_base(bases: &mut RowTable<u64>, counts: &[u64])
     requires room { length bases.old.rows < bases.old.room }
     requires width { length counts.now ≡ bases.old.width }
@@ -149,7 +149,7 @@ fn fit_base(bases: &mut RowTable<u64>, counts: &[u64])
     }
 }
 
-// Whether there is a base, and 16 bits tell of each count how much it is above that of the last base.
+// Whether there is a base, and each count is above the last base's count by less than 65,536.
 fn are_near_last(bases: &RowTable<u64>, counts: &[u64]) -> bool
     requires { length counts.now ≡ bases.now.width }
     ensures some { IsTrue result → 0 < length bases.now.rows }
@@ -160,7 +160,7 @@ fn are_near_last(bases: &RowTable<u64>, counts: &[u64]) -> bool
     count > 0 && are_near(bases.row(count - 1), counts)
 }
 
-// Whether 16 bits tell of each count how much it is above the base's.
+// Whether each count is above the base's count by less than 65,536.
 fn are_near(base: &[u64], counts: &[u64]) -> bool
     requires { length base.now ≡ length counts.now }
     ensures { IsTrue result → AreNear base.now counts.now }

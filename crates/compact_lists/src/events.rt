@@ -45,7 +45,7 @@ impl EventList {
         })
     }
 
-    /// Gives it room for so many events in all.
+    /// Gives the list room for so many events in all.
     pub fn make_room(&mut self, room: u32) -> Result<(), AllocError>
         requires { self.old.room ≤ room }
         ensures ok { OnOk result (self.new ≡ record self.old { room = room }) }

@@ -40,7 +40,7 @@ impl Model for Entries {
 }
 
 impl Entries {
-    // None yet, with room for so many.
+    // No entries yet, with room for so many.
     pub(crate) fn with_room(alloc: Global, room: u32) -> Result<Entries, AllocError>
         ensures { IfOk result (λ e. e ≡ record { items = []; room = room }) }
     {
@@ -49,7 +49,7 @@ impl Entries {
         Ok(Entries { places, events })
     }
 
-    // Gives them room for so many in all.
+    // Gives the list room for so many entries in all.
     pub(crate) fn make_room(&mut self, room: u32) -> Result<(), AllocError>
         requires { self.old.room ≤ room }
         ensures ok { OnOk result (self.new ≡ record self.old { room = room }) }
@@ -59,7 +59,7 @@ impl Entries {
         self.events.make_room(room)
     }
 
-    // How many there are.
+    // How many entries there are.
     pub(crate) fn len(&self) -> usize
         ensures { result ≡ length self.now.items }
     {
@@ -77,7 +77,7 @@ impl Entries {
         }
     }
 
-    // The last one.
+    // The last entry.
     pub(crate) fn last(&self) -> Option<Entry<'_>>
         ensures value { result ≡ slice_get self.now.items (length self.now.items - 1) }
         ensures none { result ≡ None → self.now.items ≡ [] }
@@ -120,7 +120,7 @@ impl Entries {
         greatest
     }
 
-    // One entry more, for which there is room. Its event is no join.
+    // Adds an entry, for which there is room. Its event is no join.
     pub(crate) fn push(&mut self, place: u32, event: &Event<'_>)
         requires no_join { is_join event.now ≡ false }
         requires room { length self.old.items < self.old.room }
@@ -131,7 +131,7 @@ impl Entries {
         self.events.push(event);
     }
 
-    // The entry of a join more, for which there is room. The entries keep the set.
+    // Adds the entry of a join, for which there is room. The entries keep the set.
     pub(crate) fn push_join(&mut self, place: u32, worker: WorkerNo, set: SplitSet)
         requires { length self.old.items < self.old.room }
         ensures items { self.new.items

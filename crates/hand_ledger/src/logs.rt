@@ -121,7 +121,7 @@ pub(crate) fn counts_in(event: &Event<'_>) -> usize
     }
 }
 
-// How many starts do.
+// How many starts stand for an event.
 pub(crate) fn starts_in(event: &Event<'_>) -> usize
     ensures value { result ≡ starts_in event.now }
     ensures bound { result < 2 ^ 32 }
@@ -132,7 +132,7 @@ pub(crate) fn starts_in(event: &Event<'_>) -> usize
     }
 }
 
-// So many elements of a list, from this one on; fewer where it ends before.
+// So many elements of a list, from an index on; fewer if the list ends before.
 #[tactic(auto, using(std::proofs::lemmas::List::take_min, std::proofs::lemmas::List::drop_min))]
 pub(crate) fn part<T>(list: &[T], from: usize, count: usize) -> &[T]
     ensures { result.now ≡ take count (drop from list.now) }

@@ -12,7 +12,7 @@ use std::sync::ledger::{Blank, Book, Ledger, Share};
 /// Why no hand was made. It is tested in this order.
 #[derive(Clone, Copy, Debug, PartialEq, Eq)]
 pub enum HandError {
-    /// 4,095 hands were made.
+    /// As many hands as there may be, 4,095, were made already.
     Limit,
     Memory,
 }

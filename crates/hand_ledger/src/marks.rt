@@ -77,7 +77,7 @@ pub(crate) fn mark_all(
     }
 }
 
-// A call more.
+// What is found at a place once another call was found there.
 fn found_more(found: Found, is_right: bool) -> Found
     ensures { result ≡ found_more found is_right }
 {
@@ -117,7 +117,7 @@ pub(crate) fn first_wrong(
     None
 }
 
-// Whether it is what is wanted at the place.
+// Whether what was found at a place is what is wanted there.
 fn is_right(events: usize, notes: bool, found: Found, place: usize) -> bool
     requires { events ≤ 1048576 }
     ensures { IsTrue result ↔ IsAsWanted events notes found place }

@@ -45,8 +45,8 @@ pub(crate) fn done(
     }
 }
 
-// Maps the text of the split, if it runs the attempt, and hands in what is made: so 65,536 lines `done 1` map
-// once.
+// Maps the text of the split, if the split runs the attempt, and hands in the result. So however many lines
+// `done 1` a script has, the text is mapped once.
 fn hand_split(
     alloc: Global,
     master: &mut Master,

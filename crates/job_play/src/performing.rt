@@ -53,7 +53,8 @@ pub fn perform(
     }
 }
 
-/// The same, in a report that keeps of copies how many events came before them.
+/// Performs a command as `perform` does, in a report that keeps of each `copies` how many events came
+/// before it.
 pub(crate) fn perform_in_report(
     alloc: Global,
     master: &mut Master,

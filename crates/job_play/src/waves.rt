@@ -16,7 +16,7 @@ use report_lines::{add_accepted, add_ahead, add_queued, add_start, add_wave};
 use script_text::Names;
 use std::alloc::{AllocError, Global};
 
-/// Starts the best wave that can start now, planned over the network with racks, and tells each start.
+/// Starts the best wave that can start now, planned over the cluster's tree, and tells each start.
 pub(crate) fn wave(
     alloc: Global,
     master: &mut Master,

@@ -18,8 +18,8 @@ use word_map::Entry;
 // to start threads.
 const FEW_WORDS: usize = 4_096;
 
-// The bytes of stack that a thread asks for which makes lines or lets a master go. A worker's thread asks for as
-// many.
+// How many bytes of stack a thread asks for that makes lines or lets a master go. A worker's thread asks for
+// as many.
 pub(crate) const STACK_BYTES: usize = 262_144;
 
 /// The names of documents, and four parts of an index. Each call picks them.

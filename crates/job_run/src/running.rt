@@ -42,7 +42,7 @@ pub enum RunEnd {
 /// Why the text of a job has no such end.
 #[derive(Clone, Copy, Debug, PartialEq, Eq)]
 pub enum RunTextError {
-    /// As of all commands: the text was not read, or what was made not written.
+    /// The error of any command: the text was not read, or the answer was not written.
     Tool(ToolError),
     /// The job has no outcome; nothing is written.
     Run(RunError),

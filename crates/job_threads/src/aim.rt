@@ -65,7 +65,7 @@ impl<L: Aim> Target<L> {
         }
     }
 
-    // So many replicas.
+    // How many replicas each split should have.
     pub(crate) fn replicas(&self) -> usize
         ensures { result ≡ L.target }
     {
@@ -101,7 +101,7 @@ impl<L: OfJob> Silence<L> {
         }
     }
 
-    // So many sweeps.
+    // In how many sweeps a worker may be silent.
     pub(crate) fn sweeps(&self) -> u32
         ensures value { result ≡ L.setup.cluster.silence }
         ensures same { result ≡ self.now }

@@ -42,14 +42,14 @@ impl Asked {
         Asked { idle, turn, is_due }
     }
 
-    // What it answered.
+    // What the gate answered.
     pub(crate) fn turn(&self) -> Turn
         ensures { result ≡ self.now.turn }
     {
         self.turn
     }
 
-    // Whether it asked for a sweep that counts.
+    // Whether the gate asked for a sweep, late enough after the last one.
     pub(crate) fn is_due(&self) -> bool
         ensures { result ≡ self.now.is_due }
     {
@@ -57,7 +57,7 @@ impl Asked {
     }
 }
 
-// How long ago this was; nothing where it is not known.
+// How long ago this time was; None where no clock tells it.
 fn since<R: Clock>(rt: &R, then: Option<Instant>) -> Option<Duration> {
     then?.elapsed(rt).ok()
 }

@@ -15,7 +15,7 @@ use std::marker::{Model, PhantomData};
 use std::time::Instant;
 use word_map::Pace;
 
-// In so many words and comparisons of a map or a merge its worker beats once.
+// A worker beats once for so many words and comparisons of its map or merge.
 const STRIDE: u32 = 4096;
 
 // A seat at the board of the run.
@@ -103,7 +103,7 @@ impl<'a, 'b, L: Aim> Beating<'a, 'b, L> {
         }
     }
 
-    // That the worker goes on, and one beat if so.
+    // Beats once if the worker goes on, and gives a token that it does.
     pub(crate) fn beat(&self) -> Option<GoingOn> {
         let going = self.flags.go_on(self.worker)?;
         if let Some(mut seated) = self.seated.take() {
@@ -164,7 +164,7 @@ impl<'a, L: OfJob + Aim> Model for Watch<'a, L> {
 }
 
 impl<'a, L: OfJob + Aim> Watch<'a, L> {
-    // Of a board of the job's workers.
+    // A watch over a board of the job's workers, of whose beats none was handed in yet.
     pub(crate) fn new(
         alloc: Global,
         board: &'a Board,
@@ -231,7 +231,7 @@ impl<'a, L: OfJob + Aim> Watch<'a, L> {
         &self.told
     }
 
-    // What of a worker's beats was handed in last; 0 of one that the job has not.
+    // How many of a worker's beats were handed in last; 0 of a worker that the job has not.
     pub(crate) fn seen_of(&self, worker: WorkerNo) -> u64
         ensures { result ≡ slice_index self.now.told worker }
     {
@@ -264,8 +264,8 @@ fn look_at_each(board: &Board, reader: &mut Reader, counts: &mut Vec<u64>)
     }
 }
 
-// Looks at each worker that was not stopped, until one has not made more beats than were told of it: whether
-// none is like that.
+// Looks at the workers that were not stopped, up to the first that has made no more beats than were told of
+// it: whether there is no such worker.
 fn have_beaten(board: &Board, reader: &mut Reader, told: &[u64], workers: &[Holding]) -> bool
     requires board { reader.old.board ≡ board.now.board }
     requires workers { length told.now ≡ board.now.workers }

@@ -171,7 +171,7 @@ impl<'a, L: Ledger + OfJob + Aim> Caller<'a, L> {
         }
     }
 
-    // Second attempts: where one started, the turn was not idle.
+    // Starts second attempts. If one started, the turn was not idle.
     fn back_up_idle<G: Gate, R: Wait>(
         &mut self,
         rt: &R,
@@ -251,8 +251,8 @@ impl<'a, L: Ledger + OfJob + Aim> Caller<'a, L> {
         }
     }
 
-    // Leaves the processor to the workers for a moment, now and then in idle turns. So many of them take some
-    // time, however fast one is.
+    // Leaves the processor to the workers for a moment, in some of the idle turns. So many idle turns take
+    // some time, however fast one turn is.
     fn rest<R: Clock>(&self, rt: &R) {
         let micros = nap_micros(self.idle);
         if micros > 0 {

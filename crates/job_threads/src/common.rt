@@ -35,7 +35,7 @@ impl Flags {
         self.over.load(Ordering::SeqCst) != 0
     }
 
-    // That the run was seen to be over, if it is.
+    // A token that the run was seen to be over, if it is.
     pub(crate) fn seen_over(&self) -> Option<Over> {
         if self.is_over() {
             return Some(Over { _made: () });
@@ -50,7 +50,7 @@ impl Flags {
             .store(stopped | bit_of(worker), Ordering::SeqCst);
     }
 
-    // That the worker was seen to go on, if it does.
+    // A token that the worker was seen to go on, if it does.
     pub(crate) fn go_on(&self, worker: WorkerNo) -> Option<GoingOn>
         ensures { IfSome result (λ going. going.worker ≡ worker) }
     {

@@ -49,8 +49,8 @@ pub trait Gate: Sync {
     fn turn(&self, idle: u64) -> Turn
         ensures over { result ≡ Turn.Over → may_end ≡ true };
 
-    /// A Sweep that is answered within so long of the last sweep is passed over. None is, where a gate does
-    /// not say.
+    /// A Sweep that is answered within so long of the last sweep is passed over. If a gate does not say how
+    /// long, no sweep is passed over.
     fn least_gap(&self) -> Duration {
         Duration::ZERO
     }

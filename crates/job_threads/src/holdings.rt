@@ -15,7 +15,7 @@ use std::mem;
 pub(crate) struct Holding {
     // the splits that it holds; none where it is dead
     pub(crate) held: SplitTable,
-    // those that it held when it died
+    // the splits that it held when it died
     pub(crate) lost: SplitTable,
     // what was seen of its beats then
     pub(crate) seen: u64,
@@ -39,7 +39,7 @@ impl Holding {
     }
 }
 
-// What it knows of all workers. It alone changes holders.
+// What the calling thread knows of all workers. It alone changes holders.
 #[derive(Drop)]
 pub(crate) struct Holdings {
     pub(crate) workers: Vec<Holding>,

@@ -142,7 +142,7 @@ impl<'a, L: Aim> LaneEnd<'a, L> {
         Ok((ours, LaneEnd::of(way, worker, other)))
     }
 
-    // With this pass.
+    // An end of a worker's lane, with this pass.
     fn of(way: &'a Way, worker: WorkerNo, pass: Pass) -> LaneEnd<'a, L>
         requires lane { (slice_get L.lanes worker ≡ Some way.now) × (32 ≤ way.now.capacity) }
         requires pass { (pass.lane ≡ way.now.lane) × (pass.depth ≡ 1) }
@@ -186,7 +186,7 @@ impl<'a, L: Aim> LaneEnd<'a, L> {
         is_up_to(order, way.lost.load(Ordering::SeqCst))
     }
 
-    // Its pass.
+    // The pass of the end.
     pub(crate) fn into_half(self) -> Half<L>
         ensures { result ≡ self.entry }
     {

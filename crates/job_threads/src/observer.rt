@@ -3,10 +3,10 @@
 pub struct Progress {
     pub splits: usize,
     pub parts: usize,
-    /// Of these, those that are not done.
+    /// How many splits and how many parts are not done.
     pub open_splits: u32,
     pub open_parts: u32,
-    /// Waves that were started, and deaths that were seen.
+    /// How many waves were started, and how many deaths were seen.
     pub waves: u32,
     pub deaths: u32,
 }

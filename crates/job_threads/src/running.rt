@@ -60,8 +60,8 @@ pub fn run<G: Gate, R: Threads + Wait + Clock + Sync>(
     Ok(outcome_of(run_recorded(rt, alloc, job, gate, &Unobserved)?))
 }
 
-/// The same, and hands back the master with all that was done. While the job runs, the observer is told how
-/// far it is.
+/// Runs a job as `run` does, and hands back the master with all that was done. While the job runs, the
+/// observer is told how far it is.
 pub fn run_recorded<G: Gate, O: Observer, R: Threads + Wait + Clock + Sync>(
     rt: &R,
     alloc: Global,
@@ -90,7 +90,7 @@ struct Paths {
     ghost passes_of: { passes.items ≡ map first_pass ways.items },
 }
 
-// For workers with so many slots.
+// The board and the lanes for workers with these numbers of slots.
 fn new_paths(alloc: Global, slots: &[u8]) -> Result<Paths, RunError>
     requires { length slots.now ≤ 1024 }
     ensures board { IfOk result (λ paths. paths.board.workers ≡ length slots.now) }

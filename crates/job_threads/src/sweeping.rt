@@ -153,7 +153,7 @@ impl<'a, L: Ledger + OfJob + Aim> Caller<'a, L> {
         self.add_copies(rt, common, &orders)
     }
 
-    // One after the other.
+    // Adds the copies one after another.
     fn add_copies<G: Gate, R: Wait>(
         &mut self,
         rt: &R,

@@ -29,7 +29,7 @@ impl<L: OfJob> Model for Texts<L> {
 }
 
 impl<L: OfJob> Texts<L> {
-    // The same texts once more.
+    // The texts of the job, shared and not copied.
     pub(crate) fn of(alloc: Global, texts: &[Arc<SplitText>]) -> Result<Texts<L>, AllocError>
         requires { values_of texts.now ≡ L.setup.cluster.texts }
     {
@@ -40,14 +40,14 @@ impl<L: OfJob> Texts<L> {
         })
     }
 
-    // How many there are.
+    // How many texts there are.
     pub(crate) fn len(&self) -> usize
         ensures { result ≡ length L.setup.cluster.texts }
     {
         self.texts.len()
     }
 
-    // That of a split.
+    // The text of a split.
     pub(crate) fn get(&self, split: SplitNo) -> Option<&Arc<SplitText>>
         ensures { IfSome result
             (λ text. slice_get L.setup.cluster.texts split ≡ Some (arc_value text.now)) }

@@ -42,7 +42,7 @@ struct Came<L: Ledger + Aim> {
 }
 
 impl<L: Ledger + OfJob + Aim> Came<L> {
-    // Nothing did.
+    // Before any thread has come back, with how the run ended.
     fn new(alloc: Global, end: Result<(), RunError>) -> Came<L>
         requires { end ≡ Err RunError.GateLimit → L.may_end ≡ true }
         ensures { result.end ≡ end }
@@ -55,7 +55,7 @@ impl<L: Ledger + OfJob + Aim> Came<L> {
         }
     }
 
-    // The thread of a worker did.
+    // The thread of one more worker has come back.
     fn take(&mut self, back: Back<L>) -> Result<(), AllocError>
         ensures end { self.new.end ≡ first_end self.old.end back.end }
         ensures hand { OnOk result (self.new.hands.items ≡ self.old.hands.items ++ back.hand ∷ []) }
@@ -85,7 +85,7 @@ impl<L: Ledger + OfJob + Aim> Came<L> {
         self.end = Err(RunError::Memory);
     }
 
-    // With what the calling thread has.
+    // What came back, with what the calling thread has.
     fn with(self, alloc: Global, caller: Caller<'_, L>) -> Result<Ended<L>, AllocError> {
         let Came {
             end,

@@ -36,10 +36,10 @@ use word_map::{MapResult, Run, SplitText, map_split_paced};
 // After so many takes without an order a worker sleeps at each further one.
 const EAGER_TAKES: u32 = 16;
 
-// For how long, among few workers.
+// How many microseconds a nap takes among few workers.
 const NAP_MICROS: u64 = 50;
 
-// Among so many workers a nap is twice as long, and so on, since the end of each takes a processor's time.
+// For each so many workers a nap is longer by `NAP_MICROS`, since the end of each nap takes processor time.
 const CROWD: usize = 64;
 
 // What the thread of a worker is given.
@@ -53,7 +53,7 @@ pub(crate) struct Worker<'a, L: Ledger + OfJob + Aim> {
     ghost orders_are: { orders.takes ≡ [] },
 }
 
-// What it gives back.
+// What the thread of a worker gives back.
 #[derive(Drop)]
 pub(crate) struct Back<L: Ledger + Aim> {
     pub(crate) hand: Hand<L>,

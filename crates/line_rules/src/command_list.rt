@@ -46,7 +46,7 @@ impl<'t> CommandList<'t> {
         }
     }
 
-    /// How many there are.
+    /// How many commands there are.
     pub fn len(&self) -> usize
         ensures { result ≡ length self.now }
     {

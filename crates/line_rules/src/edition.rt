@@ -11,7 +11,7 @@ pub enum Version {
     One,
     /// With data centres and backup attempts.
     Two,
-    /// With long names, large splits and queues too.
+    /// With long names, large splits, greater limits and queues too.
     Three,
 }
 

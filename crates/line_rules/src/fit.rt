@@ -14,7 +14,7 @@ use crate::rows::Rows;
 use crate::rules::is_free;
 use line_shapes::{Keyword, Kind, Place, is_within};
 
-// A line of more words than so many is one of many splits.
+// A line of more words than this is a line of many splits.
 const MANY: usize = 8;
 
 /// Whether each word after the keyword is fit for its place in a text of the version, by one pass over the

@@ -61,7 +61,7 @@ impl<'t> LineList<'t> {
         Ok(LineList { places, words })
     }
 
-    /// How many there are.
+    /// How many lines there are.
     pub fn len(&self) -> usize
         ensures { result ≡ length self.now }
     {

@@ -28,13 +28,14 @@ use std::marker::Model;
 // How many keywords there are.
 const KEYWORDS: usize = 32;
 
-// Splits are told apart by their numbers, in a table of so many marks.
+// How many marks the small table has, in which splits are told apart by their numbers.
 const MARKS: usize = 1_024;
 
-// A table with a mark for each split that a text may have. It takes memory, which may be wanting.
+// How many marks the large table has: one for each split that a text may have. It takes memory, which may be
+// wanting.
 const MANY_MARKS: usize = 131_072;
 
-/// So many names are not worth the larger table.
+/// For so many names or fewer the large table is not made.
 pub(crate) const FEW_NAMES: usize = 64;
 
 // The rows of a keyword have numbers below this one.
@@ -50,9 +51,9 @@ pub struct Rows<'t> {
     // Of each word that is a key alone: the keyword of the first line that was entered by it, and which one
     // of its keyword that line is.
     firsts: IndexMap<&'t str, (Keyword, u32)>,
-    // The barred pairs that are kept by numbers, each with which barred pair it is.
+    // The number of each barred pair among all, by the numbers of its split and its worker.
     bars: IndexMap<(u32, u32), u32>,
-    // All other keys, each with which one of its keyword the line is.
+    // For each other key the number of its line among the lines of its keyword.
     others: IndexMap<(Keyword, &'t str, &'t str), u32>,
 }
 
@@ -118,7 +119,7 @@ impl<'t> Rows<'t> {
         })
     }
 
-    /// How many there are.
+    /// How many lines there are.
     pub fn len(&self) -> usize
         ensures { result ≡ length self.now }
     {

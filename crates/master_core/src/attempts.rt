@@ -41,7 +41,7 @@ impl End {
         }
     }
 
-    /// That of a part's.
+    /// The event of the end of a part's attempt.
     pub fn of_part(self, attempt: AttemptNo) -> Event<'static>
         ensures event { (s : State) → result ≡ event_of s (part_end self attempt) }
         ensures no_join { is_join result ≡ false }

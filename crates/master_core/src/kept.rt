@@ -13,11 +13,11 @@ use worker_table::DeadList;
 /// The engine of the last wave, from which the next one is planned.
 #[derive(Drop)]
 pub enum Kept {
-    /// There is none.
+    /// No engine is kept.
     None,
-    /// It stands for a wave of the present holders and barred pairs.
+    /// An engine whose problem has the present holders and barred pairs.
     Near(Engine),
-    /// Holders or barred pairs may have changed since.
+    /// An engine since which holders or barred pairs may have changed.
     Far(Engine),
 }
 

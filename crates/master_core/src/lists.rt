@@ -1,4 +1,4 @@
-//! The lists that grow with a master's history, and that of its pending splits.
+//! The lists that grow with a master's history, and the list of which splits are pending.
 ghost use Rattle.std.specs.Prelude.{◌≡◌, ◌<◌, ◌^◌, [], IfOk, vec_capacity};
 ghost use Rattle.master_core.specs.Near.{flags_of};
 

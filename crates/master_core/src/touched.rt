@@ -5,10 +5,11 @@ ghost use Rattle.master_core.specs.Near.{IsTouched};
 use node_ids::{SplitNo, WorkerNo};
 use std::alloc::{AllocError, Global};
 
-// How many splits are listed. Where more have changed, each split is looked at.
+// How many changes are listed, each by its split. After more changes each split is looked at.
 const MOST_LISTED: usize = 1_024;
 
-/// The splits that may have changed since the last wave: the listed splits, or any split.
+/// The splits that may have changed since the last wave: the listed splits, or any split if there were more
+/// changes.
 #[derive(Drop)]
 pub struct Touched {
     pub splits: Vec<SplitNo>,

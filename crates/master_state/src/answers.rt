@@ -23,7 +23,7 @@ pub enum Why {
     WrongInput = 8,
     /// No place is left for the event, the counts or the attempt.
     HistoryFull = 9,
-    /// No memory for the reply of a reduce start.
+    /// No memory for the reply of a reduce start, or for a wave of a shared master.
     Memory = 10,
     /// The hand is of another shared master.
     StrangeHand = 11,

@@ -1,4 +1,4 @@
-//! `mrjob`: plans the map starts of a MapReduce job, and proves each plan best.
+//! `mrjob`: plans the map starts of a MapReduce job, with prices that show each plan best.
 //!
 //! The commands stand in `tools`, `job_play`, `live_master` and `job_run`, whose contracts say what is
 //! written for what was read. `main` hands them the standard streams and turns how they end into a status and

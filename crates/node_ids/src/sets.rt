@@ -47,7 +47,7 @@ impl Model for SplitTable {
 }
 
 impl SplitTable {
-    /// The table without a split, for so many. It takes 8 bytes for each 64.
+    /// An empty table for so many splits. It takes 8 bytes for each 64 of them.
     pub fn new(alloc: Global, splits: usize) -> Result<SplitTable, AllocError>
         requires { splits < 2 ^ 32 }
         ensures { IfOk result (λ table. table ≡ no_numbers splits) }
@@ -57,7 +57,7 @@ impl SplitTable {
         })
     }
 
-    /// Whether the split is in the table. None that it was not made for is.
+    /// Whether the split is in the table. A split that the table was not made for is not.
     pub fn has(&self, split: SplitNo) -> bool
         ensures { result ≡ has_number self.now split }
     {

@@ -28,7 +28,7 @@ impl<'t> NameList<'t> {
         })
     }
 
-    /// How many there are.
+    /// How many names there are.
     pub fn len(&self) -> usize
         ensures { result ≡ length self.now }
     {

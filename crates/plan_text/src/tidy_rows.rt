@@ -182,7 +182,7 @@ impl<'r, 't> TidyRows<'r, 't> {
         Ok(names)
     }
 
-    /// The same in a table, in which the number of a name is looked up.
+    /// The names as a table, in which the number of a name is looked up.
     pub fn names(&self, alloc: Global, keyword: Keyword) -> Result<NameTable<'t>, AllocError>
         requires { entering keyword ≡ ByWord }
         ensures { IfOk result (λ names. names ≡ names_of keyword self.now) }

@@ -1,7 +1,7 @@
 //! The network of a wave with nodes for the racks, for the data centres and for the cluster.
 //!
 //! A split without barred pairs gives its unit to the holders that have a slot, to their racks, to their data
-//! centres or to the cluster, so that some ten arcs leave it and not one for each worker. Where there is one
+//! centres or to the cluster, so that a few arcs for each holder leave it, not one for each worker. With one
 //! centre, its node takes the cluster's place. `build` makes the network of a small problem: of at most
 //! `MAX_SPLITS` splits, `MAX_WORKERS` workers, `MAX_RACKS` racks, `MAX_CENTRES` data centres and `MAX_SLOTS`
 //! free slots. Upward the layer promises that it is a `WaveNetwork`, off whose flows `plan_of` reads a plan.

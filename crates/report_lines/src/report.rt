@@ -19,7 +19,7 @@ use text_lines::{NameTable, WriteError};
 #[derive(Drop)]
 pub struct ReportLines {
     pub turns: Turns,
-    /// The lines since the last orders.
+    /// The lines since the orders of the last `copies`.
     pub last: String,
 }
 
@@ -43,7 +43,7 @@ impl ReportLines {
         self.turns.are_in_turn();
     }
 
-    /// A `copies` after so many events, which orders so many copies.
+    /// Adds the line of a `copies` that came after so many events and orders so many copies.
     pub fn add_copies(&mut self, alloc: Global, count: usize, events: u32) -> Result<(), AllocError>
         requires { self.old.turns.seen ≤ events }
         ensures seen { OnOk result (self.new.turns.seen ≡ events) }
@@ -65,7 +65,7 @@ pub struct MadeReport {
     splits: OwnNames,
     workers: OwnNames,
     lines: ReportLines,
-    /// Of what the orders of its copies are told; a text in place of a report has none.
+    /// The past of the master, of which the orders of copies are made; a text in place of a report has none.
     past: Option<Past>,
     piece: Piece,
 }

@@ -24,7 +24,7 @@ impl<L: OfJob> Model for SharedGlance<L> {
 }
 
 impl<L: OfJob> SharedGlance<L> {
-    // Of what was seen under the lock.
+    // The glance that was seen under the lock.
     pub(crate) fn of(glance: Glance) -> SharedGlance<L>
         requires { IsShownOf L.setup glance }
         ensures { result ≡ glance }
@@ -35,7 +35,7 @@ impl<L: OfJob> SharedGlance<L> {
         }
     }
 
-    /// What it showed.
+    /// What the master showed.
     pub fn shown(&self) -> Glance
         ensures value { result ≡ self.now }
         ensures of_job { IsShownOf L.setup self.now }

@@ -75,7 +75,7 @@ impl<L: Ledger + OfJob> Held<L> {
         self.hands.are_few(hands);
     }
 
-    // They have no more calls than there are events, and just as many where they are all that were made.
+    // Hands have no more calls than there are events, and as many calls as events if all hands are there.
     pub(crate) fn audit(&mut self, hands: &mut [Hand<L>])
         requires { L.parts ≡ 4096 }
         ensures bound { length (all_calls hands.old) ≤ length self.old.job.history }
@@ -99,7 +99,7 @@ impl<L: Ledger + OfJob> Held<L> {
         master
     }
 
-    // It is a master of the job.
+    // A law: what lies under the lock is a master of the job.
     pub(crate) fn is_of_job(&self)
         ensures { IsMasterOf L.setup self.now.job }
     {

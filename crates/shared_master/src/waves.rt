@@ -47,7 +47,7 @@ pub trait Between {
     /// Before the solution of this turn, from 1 to 3, when its problem is known.
     fn asked(&self, turn: u32);
 
-    /// After it, before its commit.
+    /// After the solution of this turn, before its commit.
     fn solved(&self, turn: u32);
 }
 

@@ -46,7 +46,7 @@ pub fn value_in(word: &str) -> Option<u64>
     }
 }
 
-// That of a word that begins with `0`: of no other one than that.
+// The number of a word that begins with `0`: the word `0` alone has one.
 fn zero_in(word: &str) -> Option<u64>
     requires nonempty { 0 < length word.now }
     requires zero { slice_index word.now 0 ≡ 48 }
@@ -55,7 +55,7 @@ fn zero_in(word: &str) -> Option<u64>
     if word.len() == 1 { Some(0) } else { None }
 }
 
-// That of a word without a leading zero. More digits than surely fit are left to std.
+// The number of a word without a leading zero. More digits than surely fit are left to std.
 fn value_from(word: &str) -> Option<u64>
     requires nonempty { 0 < length word.now }
     requires lead { slice_index word.now 0 ≢ 48 }

@@ -37,7 +37,7 @@ impl<'t> NameTable<'t> {
         })
     }
 
-    /// How many there are.
+    /// How many names there are.
     pub fn len(&self) -> usize
         ensures { result ≡ length self.now }
     {

@@ -244,7 +244,7 @@ fn ship_if_known(
     }
 }
 
-// Of how many splits lows are kept: they are worth their memory where many splits stand on a node.
+// For how many splits lows are kept: for all if there are 16 or more for each node, else for none.
 fn splits_with_lows(splits: usize, nodes: usize) -> usize {
     if splits / 16 >= nodes { splits } else { 0 }
 }

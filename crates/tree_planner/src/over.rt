@@ -120,7 +120,7 @@ fn least_elsewhere(ground: &Ground<'_>, split: u32, node: TreeNode) -> u64
     least
 }
 
-// The same of a group.
+// What a split would pay at least at another node, of a group of its ends.
 fn least_of(ground: &Ground<'_>, split: u32, node: TreeNode, ends: &Ends<'_>, group: Group) -> u64
     requires ground { IsGround ground.now }
     requires split { split < length (wave_of ground.now).splits }

@@ -10,7 +10,7 @@ use rack_tree::RackTree;
 use std::alloc::{AllocError, Global};
 use tree_flow::{NodeTable, TreeNode};
 
-/// As far as no way goes.
+/// A distance that is farther than any way goes.
 pub const FAR: u64 = 18_014_398_509_481_984;
 
 /// How many places of the row make a block. To find the nearest node, a search reads the floor of each block and

@@ -29,7 +29,7 @@ use wave_problem::Problem;
 /// What stands for ends of a split.
 #[derive(Clone, Copy, Debug, PartialEq, Eq)]
 pub enum Group {
-    /// One end.
+    /// One end of a split.
     Single(End),
     /// The nodes that hang from this one and are not left out, each as an end of this level.
     Below(TreeNode, u8),
@@ -166,7 +166,7 @@ impl OwnEnds {
     }
 }
 
-// The same workers.
+// A list of the same workers.
 fn copied(alloc: Global, workers: &[WorkerNo]) -> Result<Vec<WorkerNo>, AllocError>
     ensures { IfOk result (λ copy. copy.items ≡ workers.now) }
 {

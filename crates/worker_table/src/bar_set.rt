@@ -58,7 +58,7 @@ impl BarSet {
         let _is_new = self.pairs.insert((split, worker)).unwrap();
     }
 
-    /// All its pairs, in rows.
+    /// All barred pairs, in rows.
     pub fn rows(&self, alloc: Global) -> Result<PairSet, AllocError>
         ensures { IfOk result (λ set. set ≡ self.now.rows) }
     {

@@ -49,7 +49,7 @@ impl DeadList {
         self.workers.is_empty()
     }
 
-    /// Those who died, to be asked for one of them.
+    /// The workers that died, to be asked whether a worker is one of them.
     pub fn dead(&self) -> Dead<'_>
         ensures { result ≡ self.now.items }
     {
@@ -77,7 +77,7 @@ impl DeadList {
     }
 }
 
-/// Those who died, by rising numbers.
+/// The workers that died, by rising numbers.
 #[derive(Drop)]
 pub struct Dead<'a> {
     workers: &'a [WorkerNo],

@@ -323,7 +323,7 @@ impl Master {
     }
 
     /// Lets each live worker hear the count of its beats, and marks those dead who have been silent too long.
-    /// They are listed, where the sweep is accepted, and nobody is, where it is ignored.
+    /// The list has them if the sweep is accepted; it is empty if the sweep is ignored.
     pub fn sweep(&mut self, counts: &[u64], dead: &mut DeadList) -> Answer
         requires known { IsKnown self.old.setup (Call.Sweep counts.now) }
         requires room { length self.old.setup.cluster.slots ≤ dead.old.room }
@@ -376,7 +376,7 @@ impl Master {
         Some(worker)
     }
 
-    // The lowest worker that is spare for a split. Whether another split is pending is not asked of each one.
+    // The lowest worker that is spare for a split. Whether a split is pending is not asked for each worker.
     fn spare_worker(&self, split: SplitNo) -> Option<WorkerNo>
         requires { split < length self.now.setup.cluster.splits }
         ensures { IsLowestBelow (length self.now.setup.cluster.slots)
@@ -394,7 +394,7 @@ impl Master {
         None
     }
 
-    // Whether a worker has a free slot, is not barred from a split, and another one alone runs that.
+    // Whether a worker has a free slot and is not barred from a split that another worker alone runs.
     fn is_spare(&self, split: SplitNo, worker: WorkerNo) -> bool
         requires { IsPair self.now.setup split worker }
         ensures { result ≡ is_spare self.now.state split worker }

@@ -136,7 +136,7 @@ impl Master {
             .copy_orders(alloc, &self.workers, self.cluster.tree(), target)
     }
 
-    /// How many copies that are.
+    /// How many copies `copy_orders` answers.
     pub fn copy_count(&self, target: usize) -> usize
         ensures { result ≡ length (all_copies (holdings self.now.state.workers
             self.now.setup.cluster.tree self.now.state.holders target)) }
