@@ -19,8 +19,8 @@ Statuses:
   2   the text has a fault
   3   no memory
   4   a read or a write failed
-  5   a wave of a script starts more splits than there are attempts left, or a job has no place left
-      for an event, a sweep or an attempt
+  5   a wave or a plan ahead of a script starts more splits than there are attempts left, or a job has
+      no place left for an event, a sweep or an attempt
   6   a job's history is not made of its threads' calls, or a thread could not be started
   64  the words of the command line are wrong, or a direct network of more than 1,024 splits or 256
       workers was asked for

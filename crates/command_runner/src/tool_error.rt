@@ -18,7 +18,7 @@ pub enum ToolError {
     /// The writer failed, or took nothing; it may have taken a front of what was to be written.
     #[error("write fault")]
     Write,
-    /// A wave starts more splits than there are attempts left; nothing is written.
+    /// A wave or a plan ahead starts more splits than there are attempts left; nothing is written.
     #[error("history full")]
     HistoryFull,
 }
@@ -28,7 +28,7 @@ pub enum ToolError {
 pub enum NoAnswer {
     #[error("no memory")]
     Memory,
-    /// A wave starts more splits than there are attempts left.
+    /// A wave or a plan ahead starts more splits than there are attempts left.
     #[error("history full")]
     HistoryFull,
 }
