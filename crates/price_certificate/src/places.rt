@@ -1,0 +1,129 @@
+ghost use Rattle.std.specs.Prelude.{◌≡◌, ◌-◌, ◌*◌, ◌<◌, ◌≤◌, ◌↔◌, [], All, IfSome, IsSome, IsTrue, length, map, min};
+ghost use Rattle.std.specs.Prelude.{slice_index_or};
+ghost use Rattle.rack_tree.specs.declared.TheConstants.{MAX_WORKERS};
+ghost use Rattle.wave_problem.specs.declared.TheConstants.{MAX_SLOTS};
+ghost use Rattle.price_certificate.specs.declared.TheConstants.{MAX_PLACE_PRICE};
+ghost use Rattle.price_certificate.specs.Places.{all_places, place_price, places_cost, ArePlacePrices};
+ghost use Rattle.price_certificate.specs.Places.{IsFitRow};
+ghost use Rattle.wave_problem.specs.Wave.{worker_at};
+
+use crate::MAX_PLACE_PRICE;
+use node_ids::WorkerNo;
+use rack_tree::MAX_WORKERS;
+use std::alloc::Global;
+use std::marker::Model;
+use wave_problem::{MAX_SLOTS, Problem};
+
+/// What the split that takes a place on a worker is charged beside its byte-distance: of each worker the prices
+/// of its places, rising. A place past the last price costs as much as that. The places of a worker without
+/// prices are free, and so are those of workers past the last list.
+#[derive(Drop)]
+pub struct PlacePrices {
+    rows: Vec<Vec<u64>>,
+}
+
+impl Model for PlacePrices {
+    ghost use Rattle.std.specs.Prelude.{List, map, ℕ};
+
+    ghost use Rattle.price_certificate.specs.Places.{ArePlacePrices};
+
+    ghost Value = { List (List ℕ) };
+
+    ghost view = { λ p. map (λ row. row.items) p.rows.items };
+
+    ghost invariant = { λ p. ArePlacePrices (map (λ row. row.items) p.rows.items) };
+}
+
+impl PlacePrices {
+    /// All places are free. It takes no memory.
+    pub fn free(alloc: Global) -> PlacePrices
+        ensures { result ≡ [] }
+    {
+        PlacePrices {
+            rows: Vec::new(alloc),
+        }
+    }
+
+    /// These prices, of each worker by rising number; None where there are more workers than a cluster has, or
+    /// where a price is too great or lower than the one before. It takes no memory.
+    pub fn from_rows(rows: Vec<Vec<u64>>) -> Option<PlacePrices>
+        ensures some { IsSome result ↔ ArePlacePrices (map (λ row. row.items) rows.items) }
+        ensures rows { IfSome result (λ places. places ≡ map (λ row. row.items) rows.items) }
+    {
+        if rows.len() > MAX_WORKERS || !are_fit(&rows) {
+            return None;
+        }
+        Some(PlacePrices { rows })
+    }
+
+    /// The price of a place of the worker, the first being 0.
+    pub fn price(&self, worker: WorkerNo, place: usize) -> u64
+        ensures price { result ≡ place_price self.now worker place }
+        ensures most { result ≤ MAX_PLACE_PRICE }
+    {
+        match self.rows.get(worker.index()) {
+            Some(row) => price_in(row, place),
+            None => 0,
+        }
+    }
+
+    /// What the first places of the worker cost together, so many.
+    pub fn cost(&self, worker: WorkerNo, places: usize) -> u64
+        requires { places ≤ MAX_SLOTS }
+        ensures cost { result ≡ places_cost self.now worker places }
+        ensures most { result ≤ MAX_SLOTS * MAX_PLACE_PRICE }
+    {
+        let mut cost = 0;
+        for place in 0..places {
+            cost += self.price(worker, place);
+        }
+        cost
+    }
+
+    /// What the places of all free slots of the problem cost together.
+    pub fn total(&self, problem: &Problem) -> u64
+        ensures total { result ≡ all_places self.now problem.now }
+        ensures most { result ≤ MAX_WORKERS * (MAX_SLOTS * MAX_PLACE_PRICE) }
+    {
+        let mut total = 0;
+        for i in 0..self.rows.len() {
+            total += self.cost_of_slots(problem, i);
+        }
+        total
+    }
+
+    // What the places of a worker's free slots cost together.
+    fn cost_of_slots(&self, problem: &Problem, i: usize) -> u64
+        requires { i < MAX_WORKERS }
+        ensures cost { result ≡ places_cost self.now i (worker_at problem.now i).free }
+        ensures most { result ≤ MAX_SLOTS * MAX_PLACE_PRICE }
+    {
+        if i >= problem.workers() {
+            return 0;
+        }
+        let worker = WorkerNo::new(i as u16);
+        self.cost(worker, usize::from(problem.free(worker)))
+    }
+}
+
+fn are_fit(rows: &[Vec<u64>]) -> bool
+    ensures { IsTrue result ↔ All (λ row. IsFitRow row.items) rows.now }
+{
+    rows.iter().all(|row| is_fit(row))
+}
+
+fn is_fit(prices: &[u64]) -> bool
+    ensures { IsTrue result ↔ IsFitRow prices.now }
+{
+    prices.iter().all(|price| *price <= MAX_PLACE_PRICE) && prices.is_sorted()
+}
+
+// The price of a place in a row.
+fn price_in(prices: &[u64], place: usize) -> u64
+    ensures { result ≡ slice_index_or prices.now (min place (length prices.now - 1)) 0 }
+{
+    match prices.get(place.min(prices.len().saturating_sub(1))) {
+        Some(price) => *price,
+        None => 0,
+    }
+}
