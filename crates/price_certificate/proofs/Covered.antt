@@ -1,28 +1,56 @@
 -- One price of a worker covers its places: those taken cost no more, those left no less.
 use Rattle.std.proofs.Common.{◌≡◌, ℕ, zero, suc, ◌+◌, ◌*◌, ◌-◌, ◌<◌, ◌≤◌, min, List, [], length, All}
-use Rattle.std.proofs.Common.{inl, inr, refl, ap, arith, ◌∙◌}
+use Rattle.std.proofs.Common.{Vec, Global, map, subst}
+use Rattle.std.proofs.lemmas.List.Elements.{All-map}
+use Rattle.std.proofs.Common.{Bool, true, false, IsTrue, MatchBool, get_or, inl, inr, refl, ap, arith, ◌∙◌}
+use Rattle.std.specs.Prelude.{◌↔◌, slice_index_or}
 use Rattle.std.specs.List.Sorted.{IsNonDecreasing}
 use Rattle.std.proofs.Math.Nat.{add-mul, one-mul}
-use Rattle.std.proofs.lemmas.Bool.{cases_lt}
-use Rattle.std.proofs.lemmas.List.{get_or_past}
+use Rattle.std.proofs.lemmas.Bool.{cases_lt, false≢true}
+use Rattle.std.proofs.lemmas.List.{get_or_past, length-map}
+use Rattle.std.proofs.Math.ListN.{get_or-map}
 use Rattle.rack_tree.specs.Tree.{IsWithinReach}
 use Rattle.wave_problem.specs.Sums.{sum_below}
 use Rattle.wave_problem.specs.Wave.{Wave, worker_at}
 use Rattle.wave_problem.specs.Assignment.{IsAssignment, IsBest, load}
 use Rattle.wave_problem.proofs.Bound.{total-lt-reward}
 use Rattle.wave_problem.proofs.Grouping.{sum_below-le, sum_below-same, sum_below-zero}
+use Rattle.price_certificate.specs.declared.TheConstants.{MAX_PLACE_PRICE}
 use Rattle.price_certificate.specs.Places.{all_places, charge, full_reward, place_price, places_cost}
 use Rattle.price_certificate.specs.Places.{places_taken, prices_of, IsBestByCharge, IsFitRow}
+
+-- a fit row has no price that is too great
+price_in-small : (xs : List ℕ) (k : ℕ) → All (λ price. price ≤ MAX_PLACE_PRICE) xs →
+    slice_index_or xs k 0 ≤ MAX_PLACE_PRICE
+price_in-small xs k small = elim (cases_lt k (length xs)) [
+  | inl within ↦ small k 0 within
+  | inr past ↦ omega (arith, get_or_past xs k 0 (omega arith))
+]
+
+pub row_fit : (places : List (List ℕ)) (w : ℕ) → All IsFitRow places → IsFitRow (prices_of places w)
+row_fit places w each = elim (cases_lt w (length places)) [
+  | inl known ↦ each w [] known
+  | inr past ↦ rw (get_or_past places w [] (omega arith)) (record {
+    small = λ k d l. absurd (omega arith);
+    rising = λ i j d l b. absurd (omega arith);
+  })
+]
+
+pub place_price-small : (places : List (List ℕ)) (w k : ℕ) → All IsFitRow places →
+    place_price places w k ≤ MAX_PLACE_PRICE
+place_price-small places w k each =
+    price_in-small (prices_of places w) (min k (length (prices_of places w) - 1)) (row_fit places w each).small
+
+sum_below-constant : (n c : ℕ) → sum_below n (λ _. c) ≡ n * c
+sum_below-constant zero c = omega arith
+sum_below-constant (suc n) c = omega (arith, sum_below-constant n c, add-mul n 1 c, one-mul c)
 
 -- no place is cheaper than one before it
 pub place_price-rising : (places : List (List ℕ)) (w i j : ℕ) → All IsFitRow places → i ≤ j →
     place_price places w i ≤ place_price places w j
 place_price-rising places w i j each l =
     let row : List ℕ = prices_of places w in
-    let rising : IsNonDecreasing row = elim (cases_lt w (length places)) [
-      | inl known ↦ (each w [] known).rising
-      | inr past ↦ rw (get_or_past places w [] (omega arith)) (λ a b d g h. absurd (omega arith))
-    ] in
+    let rising : IsNonDecreasing row = (row_fit places w each).rising in
     elim (cases_lt 0 (length row)) [
       | inl some ↦ rising (min i (length row - 1)) (min j (length row - 1)) 0 (omega arith) (omega arith)
       | inr none ↦ omega (
@@ -30,6 +58,40 @@ place_price-rising places w i j each l =
         ap (λ (z : ℕ). z) (get_or_past row (min i (length row - 1)) 0 (omega arith)),
       )
     ]
+
+-- a row is fit where no price is too great and a test of neighbours passes
+pub fit_row-sorted : (xs : List ℕ) (sorted : Bool) → All (λ price. price ≤ MAX_PLACE_PRICE) xs →
+    MatchBool sorted (IsNonDecreasing xs)
+    ((k : ℕ) × (k + 1 < length xs) × ((d : ℕ) → get_or xs (k + 1) d < get_or xs k d)) →
+    IsTrue sorted ↔ IsFitRow xs
+fit_row-sorted xs true small rising = (λ _. record { small = small; rising = rising }, λ _. refl)
+fit_row-sorted xs false small found = (
+  λ wrong. absurd (false≢true wrong),
+  λ fit. absurd (omega (
+    arith,
+    fit.rising found.0 (found.0 + 1) 0 (omega arith) found.1,
+    found.2 0,
+  )),
+)
+
+-- rows of a table are fit where their prices are
+pub fit_rows : (rows : List (Vec ℕ Global)) → All (λ row. IsFitRow row.items) rows ↔
+    All IsFitRow (map (λ row. row.items) rows)
+fit_rows rows = (
+  All-map IsFitRow (λ (row : Vec ℕ Global). row.items) rows,
+  λ each k d within. subst IsFitRow (get_or-map (λ (row : Vec ℕ Global). row.items) rows k d)
+      (each k d.items (omega (arith, length-map rows (λ (row : Vec ℕ Global). row.items)))),
+)
+
+-- what the first n places cost is at most n times what one may
+pub places_cost-le : (places : List (List ℕ)) (w n : ℕ) → All IsFitRow places →
+    places_cost places w n ≤ n * MAX_PLACE_PRICE
+places_cost-le places w n each =
+    omega (
+      arith,
+      sum_below-le n (place_price places w) (λ _. MAX_PLACE_PRICE) (λ k l. place_price-small places w k each),
+      sum_below-constant n MAX_PLACE_PRICE,
+    )
 
 -- a sum over more numbers is no less
 sum_below-longer : (m n : ℕ) (f : ℕ → ℕ) → m ≤ n → sum_below m f ≤ sum_below n f

@@ -3,8 +3,8 @@ ghost use Rattle.std.specs.Prelude.{slice_index_or};
 ghost use Rattle.rack_tree.specs.declared.TheConstants.{MAX_WORKERS};
 ghost use Rattle.wave_problem.specs.declared.TheConstants.{MAX_SLOTS};
 ghost use Rattle.price_certificate.specs.declared.TheConstants.{MAX_PLACE_PRICE};
-ghost use Rattle.price_certificate.specs.Places.{all_places, place_price, places_cost, ArePlacePrices};
-ghost use Rattle.price_certificate.specs.Places.{IsFitRow};
+ghost use Rattle.price_certificate.specs.Places.{all_places, place_price, places_cost, prices_of};
+ghost use Rattle.price_certificate.specs.Places.{ArePlacePrices, IsFitRow};
 ghost use Rattle.wave_problem.specs.Wave.{worker_at};
 
 use crate::MAX_PLACE_PRICE;
@@ -24,7 +24,6 @@ pub struct PlacePrices {
 
 impl Model for PlacePrices {
     ghost use Rattle.std.specs.Prelude.{List, map, ℕ};
-
     ghost use Rattle.price_certificate.specs.Places.{ArePlacePrices};
 
     ghost Value = { List (List ℕ) };
@@ -50,10 +49,11 @@ impl PlacePrices {
         ensures some { IsSome result ↔ ArePlacePrices (map (λ row. row.items) rows.items) }
         ensures rows { IfSome result (λ places. places ≡ map (λ row. row.items) rows.items) }
     {
-        if rows.len() > MAX_WORKERS || !are_fit(&rows) {
-            return None;
+        if are_place_prices(&rows) {
+            Some(PlacePrices { rows })
+        } else {
+            None
         }
-        Some(PlacePrices { rows })
     }
 
     /// The price of a place of the worker, the first being 0.
@@ -61,9 +61,17 @@ impl PlacePrices {
         ensures price { result ≡ place_price self.now worker place }
         ensures most { result ≤ MAX_PLACE_PRICE }
     {
+        price_in(self.row(worker), place)
+    }
+
+    // The prices of a worker.
+    fn row(&self, worker: WorkerNo) -> &[u64]
+        ensures row { result.now ≡ prices_of self.now worker }
+        ensures fit { IsFitRow result.now }
+    {
         match self.rows.get(worker.index()) {
-            Some(row) => price_in(row, place),
-            None => 0,
+            Some(row) => row,
+            None => &[],
         }
     }
 
@@ -106,10 +114,22 @@ impl PlacePrices {
     }
 }
 
+fn are_place_prices(rows: &[Vec<u64>]) -> bool
+    ensures { IsTrue result ↔ ArePlacePrices (map (λ row. row.items) rows.now) }
+{
+    rows.len() <= MAX_WORKERS && are_fit(rows)
+}
+
+// Whether the prices of each worker are small enough, and rise.
 fn are_fit(rows: &[Vec<u64>]) -> bool
     ensures { IsTrue result ↔ All (λ row. IsFitRow row.items) rows.now }
 {
-    rows.iter().all(|row| is_fit(row))
+    for i in 0..rows.len() {
+        if !is_fit(&rows[i]) {
+            return false;
+        }
+    }
+    true
 }
 
 fn is_fit(prices: &[u64]) -> bool
@@ -120,7 +140,9 @@ fn is_fit(prices: &[u64]) -> bool
 
 // The price of a place in a row.
 fn price_in(prices: &[u64], place: usize) -> u64
-    ensures { result ≡ slice_index_or prices.now (min place (length prices.now - 1)) 0 }
+    requires { IsFitRow prices.now }
+    ensures price { result ≡ slice_index_or prices.now (min place (length prices.now - 1)) 0 }
+    ensures most { result ≤ MAX_PLACE_PRICE }
 {
     match prices.get(place.min(prices.len().saturating_sub(1))) {
         Some(price) => *price,
