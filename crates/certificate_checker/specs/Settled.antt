@@ -1,8 +1,8 @@
 -- By which prices a split is settled: no pair of it is priced too low.
 use Rattle.std.specs.Prelude.{ℕ, ◌≡◌, ◌+◌, ◌*◌, ◌≤◌, Bool, IsTrue, true}
 use Rattle.node_ids.specs.Sets.{HasPair}
-use Rattle.wave_problem.specs.Wave.{IsUsable, reward, split_at, worker_at}
-use Rattle.price_certificate.specs.Certificate.{Claim, Holds, split_price, worker_price}
+use Rattle.wave_problem.specs.Wave.{IsUsable, split_at, worker_at}
+use Rattle.price_certificate.specs.Certificate.{Claim, Holds, reward_of, split_price, worker_price}
 use Rattle.price_certificate.specs.declared.Condition.TheVariants.{Priced}
 use Rattle.certificate_checker.specs.Slots.{node_at}
 use Rattle.certificate_checker.specs.declared.pairs.Enough.{Enough}
@@ -16,7 +16,7 @@ IsSettled claim s settled = IsTrue settled → (w : ℕ) → Holds claim (Priced
 -- s is priced with any worker that costs so much, so many steps from a holder
 abbrev pub IsLeast : Claim → ℕ → ℕ → ℕ → Type 0
 IsLeast claim s steps price =
-    reward claim.wave ≤ split_price claim.prices s + price + steps * (split_at claim.wave s).bytes
+    reward_of claim ≤ split_price claim.prices s + price + steps * (split_at claim.wave s).bytes
 
 -- the prices are enough for a holder, and for a worker in its rack, in its data centre, and anywhere
 pub record IsEnough (claim : Claim) (s : ℕ) (enough : Enough) : Type 0 where

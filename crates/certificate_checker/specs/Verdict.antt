@@ -4,17 +4,19 @@ use Rattle.std.specs.declared.result.Result.{Result}
 use Rattle.wave_problem.specs.Assignment.{pairs_of, total}
 use Rattle.price_certificate.specs.declared.Condition.{Condition}
 use Rattle.price_certificate.specs.declared.Condition.TheVariants.{Priced}
+use Rattle.price_certificate.specs.Places.{places_taken}
 use Rattle.price_certificate.specs.Certificate.{AllHold, Claim, Certifies, Holds, IsFirstFailure, of_allowed}
 use Rattle.price_certificate.specs.Certificate.{of_open, of_room, of_split_price, of_worker_price}
 use Rattle.certificate_checker.specs.declared.Certified.{Certified}
 use Rattle.certificate_checker.specs.declared.CheckError.{CheckError}
 use Rattle.certificate_checker.specs.declared.CheckError.TheVariants.{Failed, Memory}
 
--- the plan is certified, with its count and its cost
+-- the plan is certified, with its count, its cost and what its places cost
 pub record IsCertified (claim : Claim) (certified : Certified) : Type 0 where
   pub certifies : Certifies claim
   pub count : certified.count ≡ length (pairs_of claim.starts)
   pub cost : certified.cost ≡ total claim.wave (pairs_of claim.starts)
+  pub places : certified.places ≡ places_taken claim.places claim.wave (pairs_of claim.starts)
 
 -- what a checker has to answer: there is one such answer to each claim
 abbrev pub IsVerdict : Claim → Result Certified Condition → Type 0

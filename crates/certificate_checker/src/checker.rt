@@ -1,35 +1,39 @@
-ghost use Rattle.std.specs.Prelude.{◌≡◌, ◌+◌, ◌*◌, ◌<◌, ◌≤◌, ◌↔◌, length};
-ghost use Rattle.std.specs.Prelude.{unwrap_or, IsTrue, OnOk, Err, IfErr, IfOk, IfSome};
+ghost use Rattle.std.specs.Prelude.{◌≡◌, [], ◌+◌, ◌*◌, ◌<◌, ◌≤◌, ◌↔◌, length};
+ghost use Rattle.std.specs.Prelude.{option_copied, unwrap_or, IsTrue, OnOk, Err, IfErr, IfOk, IfSome};
 ghost use Rattle.node_ids.specs.Sets.{HasPair};
 ghost use Rattle.rack_tree.specs.Tree.{IsWithinReach};
 ghost use Rattle.rack_tree.specs.declared.TheConstants.{MAX_DISTANCE, MAX_WORKERS};
-ghost use Rattle.wave_problem.specs.declared.TheConstants.{MAX_BYTES, MAX_SPLITS};
-ghost use Rattle.wave_problem.specs.Wave.{cost, reward, worker_at, IsOpen, IsUsable};
+ghost use Rattle.wave_problem.specs.declared.TheConstants.{MAX_BYTES, MAX_SLOTS, MAX_SPLITS};
+ghost use Rattle.wave_problem.specs.Wave.{cost, worker_at, IsOpen, IsUsable};
 ghost use Rattle.wave_problem.specs.Assignment.{load, pairs_of, start_of, total};
-ghost use Rattle.price_certificate.specs.Certificate.{AllHold, claim, Certifies, HasOneSize, Holds};
+ghost use Rattle.price_certificate.specs.declared.TheConstants.{MAX_PLACE_PRICE};
+ghost use Rattle.price_certificate.specs.Places.{all_places, place_price, places_taken};
+ghost use Rattle.price_certificate.specs.Certificate.{AllHold, charged_claim, claim, Certifies, HasOneSize, Holds};
 ghost use Rattle.price_certificate.specs.Certificate.{IsFirstFailure, IsFirstOf, MayTake, priced_at};
-ghost use Rattle.price_certificate.specs.Certificate.{split_price, worker_price, of_allowed, of_open};
+ghost use Rattle.price_certificate.specs.Certificate.{reward_of, split_price, worker_price, of_allowed, of_open};
 ghost use Rattle.price_certificate.specs.Certificate.{of_priced, of_room, of_spare, of_split_price, of_tight};
 ghost use Rattle.price_certificate.specs.Certificate.{of_unstarted, of_worker_price, Claim};
-ghost use Rattle.certificate_checker.specs.Verdict.{IfFailed, IsFirstUnderpriced, MayComparePairs};
+ghost use Rattle.certificate_checker.specs.Verdict.{IfFailed, IsCertified, IsFirstUnderpriced, IsVerdict};
+ghost use Rattle.certificate_checker.specs.Verdict.{MayComparePairs};
 ghost use Rattle.certificate_checker.specs.Slots.{AreSlots};
-ghost use Rattle.certificate_checker.specs.View.{claim_of, AreLoads, IsSound};
+ghost use Rattle.certificate_checker.specs.View.{claim_of, most_reward, AreLoads, IsSound};
 
 use crate::pairs::PairChecker;
 use crate::slots::{Slot, sort_by_price};
 use crate::{Certified, CheckError};
 use node_ids::{SplitNo, WorkerNo};
-use price_certificate::{Condition, Prices};
+use price_certificate::{Condition, PlacePrices, Prices};
 use std::alloc::{AllocError, Global};
 use std::marker::Model;
 use std::thread::Threads;
 use wave_problem::{Plan, Problem};
 
 // A problem, a plan and prices of one size, with what would be counted again at each place. Without a table
-// of the loads, each is counted as it is asked for.
+// of the loads, each is counted as it is asked for. Without prices of places, all places are free.
 #[derive(Drop)]
 pub(crate) struct Checker<'a> {
     problem: &'a Problem,
+    places: Option<&'a PlacePrices>,
     plan: &'a Plan,
     prices: &'a Prices,
     reward: u64,
@@ -48,21 +52,24 @@ impl<'a> Model for Checker<'a> {
 impl<'a> Checker<'a> {
     pub(crate) fn new(
         problem: &'a Problem,
+        places: Option<&'a PlacePrices>,
         plan: &'a Plan,
         prices: &'a Prices,
         loads: Option<Vec<u32>>,
     ) -> Checker<'a>
         requires sizes { HasOneSize (claim problem.now plan.now.starts prices.now) plan.now.workers }
         requires loads { IfSome loads (λ loads. AreLoads plan.now loads.items) }
-        ensures value { result ≡ claim problem.now plan.now.starts prices.now }
+        ensures value { result
+            ≡ charged_claim problem.now (unwrap_or (option_copied places) []) plan.now.starts prices.now }
         ensures near { IsWithinReach result.wave.tree }
     {
         problem.limits();
         Checker {
             problem,
+            places,
             plan,
             prices,
-            reward: problem.reward(),
+            reward: cost_of_slots(problem, places) + problem.reward(),
             loads,
         }
     }
@@ -116,10 +123,19 @@ impl<'a> Checker<'a> {
     }
 
     pub(crate) fn reward(&self) -> u64
-        ensures reward { result ≡ reward self.now.wave }
-        ensures most { result ≤ 1 + MAX_DISTANCE * MAX_SPLITS * MAX_BYTES }
+        ensures reward { result ≡ reward_of self.now }
+        ensures most { result ≤ most_reward }
     {
         self.reward
+    }
+
+    fn place_price(&self, worker: WorkerNo, place: usize) -> u64
+        ensures { result ≡ place_price self.now.places worker place }
+    {
+        match self.places {
+            Some(places) => places.price(worker, place),
+            None => 0,
+        }
     }
 
     pub(crate) fn split_price(&self, split: SplitNo) -> u64
@@ -148,13 +164,36 @@ impl<'a> Checker<'a> {
     // What is said of a plan that is certified.
     pub(crate) fn certified(&self) -> Certified
         requires { Certifies self.now }
-        ensures count { result.count ≡ length (pairs_of self.now.starts) }
-        ensures cost { result.cost ≡ total self.now.wave (pairs_of self.now.starts) }
+        ensures { IsCertified self.now result }
     {
         Certified {
             count: self.plan.count(),
             cost: self.total(),
+            places: self.places_taken(),
         }
+    }
+
+    fn places_taken(&self) -> u64
+        requires { Certifies self.now }
+        ensures { result ≡ places_taken self.now.places self.now.wave (pairs_of self.now.starts) }
+    {
+        match self.places {
+            Some(places) => self.taken_at(places),
+            None => 0,
+        }
+    }
+
+    // What the plan's places cost by these prices.
+    fn taken_at(&self, places: &PlacePrices) -> u64
+        requires { Certifies self.now }
+        ensures { result ≡ places_taken places.now self.now.wave (pairs_of self.now.starts) }
+    {
+        let mut total = 0;
+        for i in 0..self.workers() {
+            let worker = WorkerNo::new(i as u16);
+            total += places.cost(worker, self.load(worker));
+        }
+        total
     }
 
     fn total(&self) -> u64
@@ -175,7 +214,7 @@ impl<'a> Checker<'a> {
     fn tight_cost(&self, split: SplitNo, worker: WorkerNo) -> u64
         requires split { split < length self.now.wave.splits }
         requires worker { worker < length self.now.wave.workers }
-        requires tight { priced_at self.now.wave self.now.prices split worker ≡ reward self.now.wave }
+        requires tight { priced_at self.now.wave self.now.prices split worker ≡ reward_of self.now }
         ensures cost { result ≡ unwrap_or (cost self.now.wave split worker) 0 }
         ensures most { result ≤ MAX_DISTANCE * MAX_BYTES }
     {
@@ -247,7 +286,7 @@ impl<'a> Checker<'a> {
         requires split { split < length self.now.wave.splits }
         requires worker { worker < length self.now.wave.workers }
         ensures sum { result ≡ split_price self.now.prices split + worker_price self.now.prices worker }
-        ensures most { result ≤ 2 * (1 + MAX_DISTANCE * MAX_SPLITS * MAX_BYTES) }
+        ensures most { result ≤ 2 * most_reward }
     {
         self.prices.split(split) + self.prices.worker(worker)
     }
@@ -267,7 +306,7 @@ impl<'a> Checker<'a> {
         requires split { split < length self.now.wave.splits }
         requires worker { worker < length self.now.wave.workers }
         ensures { IsTrue result ↔ (priced_at self.now.wave self.now.prices split worker
-            ≡ reward self.now.wave) }
+            ≡ reward_of self.now) }
     {
         self.price(split, worker) + self.cost(split, worker) == self.reward
     }
@@ -297,17 +336,41 @@ impl<'a> Checker<'a> {
         self.start(split).is_some() || self.split_price(split) == 0
     }
 
-    fn is_free_with_spare(&self, worker: WorkerNo) -> bool
+    fn fits_places(&self, worker: WorkerNo) -> bool
         requires { worker < length self.now.wave.workers }
         ensures { IsTrue result ↔ Holds self.now (Condition.Spare worker) }
     {
-        self.load(worker) >= self.slots(worker) || self.worker_price(worker) == 0
+        let taken = self.load(worker);
+        let price = self.worker_price(worker);
+        (taken == 0 || self.place_price(worker, taken - 1) <= price)
+            && (taken >= self.slots(worker) || price <= self.place_price(worker, taken))
     }
 }
 
 // The conditions at all places, in their order.
 impl<'a> Checker<'a> {
-    pub(crate) fn check(&self, alloc: Global) -> Result<(), Condition>
+    pub(crate) fn verdict(&self, alloc: Global) -> Result<Certified, Condition>
+        ensures { IsVerdict self.now result }
+    {
+        self.check(alloc)?;
+        Ok(self.certified())
+    }
+
+    // As `verdict`, with the pass over the pairs on many threads.
+    pub(crate) fn verdict_on(
+        &self,
+        rt: &(impl Threads + Sync),
+        alloc: Global,
+    ) -> Result<Certified, CheckError>
+        ensures certified { IfOk result (IsCertified self.now) }
+        ensures failed { IfFailed result (IsFirstFailure self.now) }
+        ensures memory { result ≡ Err CheckError.Memory → MayComparePairs self.now }
+    {
+        self.check_on(rt, alloc)?;
+        Ok(self.certified())
+    }
+
+    fn check(&self, alloc: Global) -> Result<(), Condition>
         ensures ok { OnOk result (Certifies self.now) }
         ensures err { IfErr result (IsFirstFailure self.now) }
     {
@@ -317,7 +380,7 @@ impl<'a> Checker<'a> {
     }
 
     // As `check`, with the pass over the pairs on many threads.
-    pub(crate) fn check_on(
+    fn check_on(
         &self,
         rt: &(impl Threads + Sync),
         alloc: Global,
@@ -534,16 +597,28 @@ impl<'a> Checker<'a> {
     }
 
     fn check_spare(&self) -> Result<(), Condition>
+        requires { AllHold self.now of_room }
         ensures ok { OnOk result (AllHold self.now of_spare) }
         ensures err { IfErr result (IsFirstOf self.now of_spare) }
     {
         for i in 0..self.workers() {
             let worker = WorkerNo::new(i as u16);
-            if !self.is_free_with_spare(worker) {
+            if !self.fits_places(worker) {
                 return Err(Condition::Spare(worker));
             }
         }
         Ok(())
+    }
+}
+
+// What the places of all free slots cost together.
+fn cost_of_slots(problem: &Problem, places: Option<&PlacePrices>) -> u64
+    ensures cost { result ≡ all_places (unwrap_or (option_copied places) []) problem.now }
+    ensures most { result ≤ MAX_WORKERS * (MAX_SLOTS * MAX_PLACE_PRICE) }
+{
+    match places {
+        Some(places) => places.total(problem),
+        None => 0,
     }
 }
 

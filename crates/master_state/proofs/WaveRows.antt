@@ -78,7 +78,7 @@ stale : (prices : PriceList) → Certifies (claim present old_plan prices) → �
 stale prices holds =
     let priced = holds (condition.Priced 1 0) near_start in
     let tight = holds (condition.Tight 1 1) refl in
-    let spare = holds (condition.Spare 0) (omega arith) in
+    let spare = (holds (condition.Spare 0)).left (omega arith) in
     omega (arith, priced, tight, spare)
 
 -- it fails at the near start, or else at the price of the worker that it leaves free

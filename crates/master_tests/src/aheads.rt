@@ -37,6 +37,7 @@ fn first(planned: (usize, u64), started: (u32, u64)) -> Told {
     let certified = Certified {
         count: planned.0,
         cost: planned.1,
+        places: 0,
     };
     let wave = Wave {
         place: 1,
@@ -126,7 +127,7 @@ fn start_the_second(rt: &impl Abort, alloc: Global, job: &mut Job) {
         cost: 0,
     };
     let told = ahead(rt, alloc, job, &[2, 0]);
-    assert_eq!(rt; told, Ok((Certified { count: 1, cost: 0 }, wave)));
+    assert_eq!(rt; told, Ok((Certified { count: 1, cost: 0, places: 0 }, wave)));
     assert_eq!(rt; job.master.start(AttemptNo::new(2)), Some(on_the_first(1)));
 }
 

@@ -553,7 +553,7 @@ module _ (wave : Wave) (first : ℕ) (above : ℕ → List ℕ) (arcs : List Flo
           room in
           let slots = network.slots w u in
           let loads = state.loads w u in
-          certified (Spare w) (omega arith))
+          let low = (certified (Spare w)).left (omega arith) in omega arith)
     ]
 
     last_arc : ((arc_at arcs k).from ≡ nodes.unstarted) ⊎ IsWorkerNode wave first (arc_at arcs k).from

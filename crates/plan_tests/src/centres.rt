@@ -67,6 +67,7 @@ fn rows(rt: HostRuntime) {
         let want = Certified {
             count: row.certified.0,
             cost: row.certified.1,
+            places: 0,
         };
         assert_eq!(rt; told(&rt, rt.alloc(), row), (row.reward, Ok(want)));
     }

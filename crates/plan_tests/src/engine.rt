@@ -14,6 +14,7 @@ fn assert_best(rt: &impl Abort, alloc: Global, small: &Small) {
     let want = Certified {
         count: best.count,
         cost: best.cost,
+        places: 0,
     };
     let (plan, prices) = plan(alloc, &problem).expect(rt, "no plan");
     let certified = certify(alloc, &problem, &plan, &prices);

@@ -23,6 +23,7 @@ fn assert_best(rt: &impl Abort, alloc: Global, engine: &mut Engine, small: &Smal
     let want = Certified {
         count: best.count,
         cost: best.cost,
+        places: 0,
     };
     let (plan, prices) = engine.plan(alloc).expect(rt, "no plan");
     let certified = certify(alloc, engine.problem(), &plan, &prices);

@@ -21,6 +21,7 @@ fn assert_certified(
     let want = Certified {
         count: want.count,
         cost: want.cost,
+        places: 0,
     };
     let certified = certify(alloc, problem, planned.plan(), planned.prices());
     assert_eq!(rt;

@@ -1,7 +1,9 @@
 use crate::clusters::{made, plan_of, prices_of};
-use certificate_checker::{Certified, CheckError, certify, certify_on};
+use certificate_checker::{
+    Certified, CheckError, certify, certify_on, certify_places, certify_places_on,
+};
 use node_ids::{SplitNo, WorkerNo};
-use price_certificate::{Condition, Prices, are_of_one_size};
+use price_certificate::{Condition, PlacePrices, Prices, are_of_one_size};
 use std::alloc::Global;
 use std::process::Abort;
 use std::thread::Threads;
@@ -74,7 +76,11 @@ fn certified(rt: HostRuntime) {
             workers,
             ..CERTIFIED
         };
-        let want = Certified { count: 2, cost: 20 };
+        let want = Certified {
+            count: 2,
+            cost: 20,
+            places: 0,
+        };
         assert_eq!(rt;
             (splits, answers_to(&rt, rt.alloc(), row)),
             (splits, (Ok(want), Ok(want)))
@@ -150,6 +156,69 @@ fn refused_in_another_problem(rt: HostRuntime) {
             ..CERTIFIED
         };
         assert_eq!(rt; answers_to(&rt, rt.alloc(), row), refused(&want));
+    }
+}
+
+// Worker a has three slots, whose places cost 0, 10 and 60, and worker b a slot whose place is free. The splits
+// s and t of above start on a, and have one price. So the reward is 191.
+fn answers_of_places<R: Abort + Threads + Sync>(
+    rt: &R,
+    alloc: Global,
+    b_live: bool,
+    split: u64,
+    workers: [u64; 2],
+) -> Answers {
+    let splits: [(u64, bool, &[u16]); 2] = [(10, true, &[0]), (20, true, &[0])];
+    let lines = [(0, true, 3), (0, b_live, 1)];
+    let problem = made(rt, alloc, &lines, &splits, &[]).expect(rt, "no problem");
+    let plan = plan_of(rt, alloc, &[Some(0), Some(0)], 2);
+    let prices = prices_of(rt, alloc, &[split, split], &workers);
+    let row: Vec<u64> = vec![in alloc; 0, 10, 60].expect(rt, "no prices");
+    let rows = vec![in alloc; row].expect(rt, "no prices");
+    let places = PlacePrices::from_rows(rows).expect(rt, "no prices of places");
+    assert!(rt; are_of_one_size(&problem, &plan, &prices));
+    (
+        certify_places(alloc, &problem, &places, &plan, &prices),
+        certify_places_on(rt, alloc, &problem, &places, &plan, &prices),
+    )
+}
+
+// The price of a lies between those of its second place and its third, and what b asks for the splits.
+#[test]
+fn certified_with_places(rt: HostRuntime) {
+    let want = Certified {
+        count: 2,
+        cost: 0,
+        places: 10,
+    };
+    for (b_live, split, a) in [
+        (true, 181, 10),
+        (true, 171, 20),
+        (false, 181, 10),
+        (false, 131, 60),
+    ] {
+        assert_eq!(rt;
+            (a, answers_of_places(&rt, rt.alloc(), b_live, split, [a, 0])),
+            (a, (Ok(want), Ok(want)))
+        );
+    }
+}
+
+#[test]
+fn refused_with_places(rt: HostRuntime) {
+    let s = SplitNo::new(0);
+    let a = WorkerNo::new(0);
+    let b = WorkerNo::new(1);
+    for (b_live, split, workers, want) in [
+        (true, 182, [9, 0], Condition::Spare(a)),
+        (false, 130, [61, 0], Condition::Spare(a)),
+        (true, 176, [15, 1], Condition::Spare(b)),
+        (true, 170, [21, 0], Condition::Priced(s, b)),
+        (true, 111, [10, 0], Condition::Priced(s, a)),
+        (true, 192, [10, 0], Condition::SplitPrice(s)),
+    ] {
+        let told = answers_of_places(&rt, rt.alloc(), b_live, split, workers);
+        assert_eq!(rt; told, refused(&want));
     }
 }
 

@@ -176,7 +176,7 @@ times-is-between m n q f rising l taken left =
     )
 
 -- where all places are free, the charge is the byte-distance
-charge-plain : (wave : Wave) (pairs : List (ℕ × ℕ)) → places_taken [] wave pairs ≡ 0
+pub charge-plain : (wave : Wave) (pairs : List (ℕ × ℕ)) → places_taken [] wave pairs ≡ 0
 charge-plain wave pairs =
     sum_below-same (length wave.workers) (λ w. places_cost [] w (load pairs w)) (λ _. 0)
     (λ w l. sum_below-zero (load pairs w))

@@ -273,12 +273,12 @@ module _ (wave : Wave) (state : State) (kept : IsKept wave state) where
     certifies (Open s) = open_at s (start_of starts s) refl
     certifies (Allowed s w) = λ e. (let a = admissible s w e in (a.live, a.not_barred))
     certifies (Room w) = room w
-    certifies (SplitPrice s) = split_price_at s (start_of starts s) refl
-    certifies (WorkerPrice w) = worker_price_at w
-    certifies (Priced s w) = priced_at_all s w (start_of starts s) refl
-    certifies (Tight s w) = tight s w
+    certifies (SplitPrice s) = omega (arith, split_price_at s (start_of starts s) refl)
+    certifies (WorkerPrice w) = omega (arith, worker_price_at w)
+    certifies (Priced s w) = λ a. omega (arith, priced_at_all s w (start_of starts s) refl a)
+    certifies (Tight s w) = λ e. omega (arith, tight s w e)
     certifies (Unstarted s) = priced.unstarted s
-    certifies (Spare w) = spare w
+    certifies (Spare w) = record { taken = λ _. omega arith; left = λ l. omega (arith, spare w l) }
 
 pub engine_certifies : EngineCertifies
 engine_certifies wave state starts prices near known kept handed priced =

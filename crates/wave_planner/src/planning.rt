@@ -64,6 +64,7 @@ impl Planned {
         let certified = Certified {
             count: pairs.len(),
             cost: cost_of(problem, &pairs),
+            places: 0,
         };
         Planned {
             plan,

@@ -67,6 +67,7 @@ impl Master {
         let totals = Certified {
             count: pairs.len(),
             cost: cost_of(engine.problem(), &pairs),
+            places: 0,
         };
         self.engine = Kept::Far(engine);
         Ok(Queued {
