@@ -1,13 +1,12 @@
-ghost use Rattle.std.specs.Prelude.{◌≡◌, [], ◌+◌, ◌*◌, ◌<◌, ◌≤◌, ◌↔◌, length};
-ghost use Rattle.std.specs.Prelude.{option_copied, unwrap_or, IsTrue, OnOk, Err, IfErr, IfOk, IfSome};
+ghost use Rattle.std.specs.Prelude.{◌≡◌, ◌+◌, ◌*◌, ◌<◌, ◌≤◌, ◌↔◌, length};
+ghost use Rattle.std.specs.Prelude.{unwrap_or, All, IsTrue, OnOk, Err, IfErr, IfOk, IfSome};
 ghost use Rattle.node_ids.specs.Sets.{HasPair};
 ghost use Rattle.rack_tree.specs.Tree.{IsWithinReach};
 ghost use Rattle.rack_tree.specs.declared.TheConstants.{MAX_DISTANCE, MAX_WORKERS};
-ghost use Rattle.wave_problem.specs.declared.TheConstants.{MAX_BYTES, MAX_SLOTS, MAX_SPLITS};
+ghost use Rattle.wave_problem.specs.declared.TheConstants.{MAX_BYTES, MAX_SPLITS};
 ghost use Rattle.wave_problem.specs.Wave.{cost, worker_at, IsOpen, IsUsable};
 ghost use Rattle.wave_problem.specs.Assignment.{load, pairs_of, start_of, total};
-ghost use Rattle.price_certificate.specs.declared.TheConstants.{MAX_PLACE_PRICE};
-ghost use Rattle.price_certificate.specs.Places.{all_places, place_price, places_taken};
+ghost use Rattle.price_certificate.specs.Places.{place_price, places_taken, IsFitRow};
 ghost use Rattle.price_certificate.specs.Certificate.{AllHold, charged_claim, claim, Certifies, HasOneSize, Holds};
 ghost use Rattle.price_certificate.specs.Certificate.{IsFirstFailure, IsFirstOf, MayTake, priced_at};
 ghost use Rattle.price_certificate.specs.Certificate.{reward_of, split_price, worker_price, of_allowed, of_open};
@@ -52,24 +51,48 @@ impl<'a> Model for Checker<'a> {
 impl<'a> Checker<'a> {
     pub(crate) fn new(
         problem: &'a Problem,
-        places: Option<&'a PlacePrices>,
         plan: &'a Plan,
         prices: &'a Prices,
         loads: Option<Vec<u32>>,
     ) -> Checker<'a>
         requires sizes { HasOneSize (claim problem.now plan.now.starts prices.now) plan.now.workers }
         requires loads { IfSome loads (λ loads. AreLoads plan.now loads.items) }
-        ensures value { result
-            ≡ charged_claim problem.now (unwrap_or (option_copied places) []) plan.now.starts prices.now }
+        ensures value { result ≡ claim problem.now plan.now.starts prices.now }
         ensures near { IsWithinReach result.wave.tree }
     {
         problem.limits();
         Checker {
             problem,
-            places,
+            places: None,
             plan,
             prices,
-            reward: cost_of_slots(problem, places) + problem.reward(),
+            reward: problem.reward(),
+            loads,
+        }
+    }
+
+    // A checker where places have prices.
+    pub(crate) fn with_places(
+        problem: &'a Problem,
+        places: &'a PlacePrices,
+        plan: &'a Plan,
+        prices: &'a Prices,
+        loads: Option<Vec<u32>>,
+    ) -> Checker<'a>
+        requires sizes { HasOneSize (claim problem.now plan.now.starts prices.now) plan.now.workers }
+        requires loads { IfSome loads (λ loads. AreLoads plan.now loads.items) }
+        ensures value { result ≡ charged_claim problem.now places.now plan.now.starts prices.now }
+        ensures near { IsWithinReach result.wave.tree }
+        ensures fit { All IsFitRow result.places }
+    {
+        problem.limits();
+        places.limits();
+        Checker {
+            problem,
+            places: Some(places),
+            plan,
+            prices,
+            reward: places.total(problem) + problem.reward(),
             loads,
         }
     }
@@ -188,6 +211,7 @@ impl<'a> Checker<'a> {
         requires { Certifies self.now }
         ensures { result ≡ places_taken places.now self.now.wave (pairs_of self.now.starts) }
     {
+        self.problem().limits();
         let mut total = 0;
         for i in 0..self.workers() {
             let worker = WorkerNo::new(i as u16);
@@ -380,11 +404,7 @@ impl<'a> Checker<'a> {
     }
 
     // As `check`, with the pass over the pairs on many threads.
-    fn check_on(
-        &self,
-        rt: &(impl Threads + Sync),
-        alloc: Global,
-    ) -> Result<(), CheckError>
+    fn check_on(&self, rt: &(impl Threads + Sync), alloc: Global) -> Result<(), CheckError>
         ensures ok { OnOk result (Certifies self.now) }
         ensures failed { IfFailed result (IsFirstFailure self.now) }
         ensures memory { result ≡ Err CheckError.Memory → MayComparePairs self.now }
@@ -608,17 +628,6 @@ impl<'a> Checker<'a> {
             }
         }
         Ok(())
-    }
-}
-
-// What the places of all free slots cost together.
-fn cost_of_slots(problem: &Problem, places: Option<&PlacePrices>) -> u64
-    ensures cost { result ≡ all_places (unwrap_or (option_copied places) []) problem.now }
-    ensures most { result ≤ MAX_WORKERS * (MAX_SLOTS * MAX_PLACE_PRICE) }
-{
-    match places {
-        Some(places) => places.total(problem),
-        None => 0,
     }
 }
 

@@ -173,8 +173,9 @@ fn answers_of_places<R: Abort + Threads + Sync>(
     let problem = made(rt, alloc, &lines, &splits, &[]).expect(rt, "no problem");
     let plan = plan_of(rt, alloc, &[Some(0), Some(0)], 2);
     let prices = prices_of(rt, alloc, &[split, split], &workers);
-    let row: Vec<u64> = vec![in alloc; 0, 10, 60].expect(rt, "no prices");
-    let rows = vec![in alloc; row].expect(rt, "no prices");
+    let row = [0, 10, 60].to_vec(alloc).expect(rt, "no prices");
+    let mut rows = Vec::new(alloc);
+    rows.push(row).expect(rt, "no prices");
     let places = PlacePrices::from_rows(rows).expect(rt, "no prices of places");
     assert!(rt; are_of_one_size(&problem, &plan, &prices));
     (

@@ -56,6 +56,14 @@ impl PlacePrices {
         }
     }
 
+    /// What holds of all prices of places.
+    pub fn limits(&self)
+        ensures { ArePlacePrices self.now }
+    {
+        // (reads the rows, of which the invariant speaks)
+        let _few = self.rows.len();
+    }
+
     /// The price of a place of the worker, the first being 0.
     pub fn price(&self, worker: WorkerNo, place: usize) -> u64
         ensures price { result ≡ place_price self.now worker place }

@@ -3,6 +3,7 @@ use Rattle.wave_problem.specs.Assignment.{pairs_of}
 use Rattle.wave_problem.proofs.Bound.{live_known, pending_known}
 use Rattle.wave_problem.proofs.Pairs.{pairs_started}
 use Rattle.price_certificate.specs.declared.Condition.TheVariants.{Allowed, Open}
+use Rattle.price_certificate.proofs.Covered.{charge-plain}
 use Rattle.rack_network.proofs.Exists.{certified_is_over_racks}
 use Rattle.rack_network.specs.Racks.{IsTree}
 use Rattle.wave_planner.proofs.Costed.{pairs_few}
@@ -42,3 +43,20 @@ returns-clause-over c =
     } in
     certified_is_over_racks wave c.args.plan.starts c.args.plan.workers c.args.prices is c.requires.sizes
     c.requires.certifies c.requires.idle
+
+pub invariant_of-result : goal.invariant_of-result
+invariant_of-result c = (
+  record {
+    wave = c.args.problem.now;
+    plan_for = record {
+      one_size = c.requires.sizes;
+      certified = record {
+        certifies = c.requires.certifies;
+        count = omega arith;
+        cost = omega arith;
+        places = sym (charge-plain c.args.problem.now (pairs_of c.args.plan.starts));
+      };
+    };
+  },
+  c.requires.pairs,
+)
