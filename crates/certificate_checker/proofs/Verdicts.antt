@@ -1,7 +1,7 @@
 -- A claim has one verdict.
 use Rattle.std.proofs.Common.{◌≡◌, ℕ, Ok, Err, refl, sym, ap, ◌∙◌}
 use Rattle.std.specs.Prelude.{◌↔◌}
-use Rattle.std.specs.Result.{IfErr, IfOk, IsOk, OnOk}
+use Rattle.std.specs.Result.{IfErr, IfOk, IsErrAnd, IsOk, OnOk}
 use Rattle.std.proofs.lemmas.Bool.{false≢true}
 use Rattle.std.specs.declared.result.Result.{Result}
 use Rattle.price_certificate.specs.declared.Condition.{Condition}
@@ -58,3 +58,8 @@ verdict-same claim (Ok x) answer certified failed verdict found =
 verdict-same claim (Err Memory) answer certified failed verdict found = absurd (found refl)
 verdict-same claim (Err (Failed c)) answer certified failed verdict found =
     ap answer_of (verdict-unique claim (Err c) answer failed verdict)
+
+-- an error of which it is known which it is
+pub err_is : {X E : Type 0} (r : Result X E) (e : E) → IsErrAnd r (λ d. d ≡ e) → r ≡ Err e
+err_is (Ok x) e same = absurd same
+err_is (Err d) e same = ap Err same

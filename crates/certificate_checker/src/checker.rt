@@ -7,10 +7,10 @@ ghost use Rattle.wave_problem.specs.declared.TheConstants.{MAX_BYTES, MAX_SPLITS
 ghost use Rattle.wave_problem.specs.Wave.{cost, worker_at, IsOpen, IsUsable};
 ghost use Rattle.wave_problem.specs.Assignment.{load, pairs_of, start_of, total};
 ghost use Rattle.price_certificate.specs.Places.{place_price, places_taken, IsFitRow};
-ghost use Rattle.price_certificate.specs.Certificate.{AllHold, charged_claim, claim, Certifies, HasOneSize, Holds};
-ghost use Rattle.price_certificate.specs.Certificate.{IsFirstFailure, IsFirstOf, MayTake, priced_at};
-ghost use Rattle.price_certificate.specs.Certificate.{reward_of, split_price, worker_price, of_allowed, of_open};
-ghost use Rattle.price_certificate.specs.Certificate.{of_priced, of_room, of_spare, of_split_price, of_tight};
+ghost use Rattle.price_certificate.specs.Certificate.{AllHold, charged_claim, claim, Certifies, HasOneSize};
+ghost use Rattle.price_certificate.specs.Certificate.{Holds, IsFirstFailure, IsFirstOf, MayTake, priced_at};
+ghost use Rattle.price_certificate.specs.Certificate.{reward_of, split_price, worker_price, of_allowed};
+ghost use Rattle.price_certificate.specs.Certificate.{of_open, of_priced, of_room, of_spare, of_split_price, of_tight};
 ghost use Rattle.price_certificate.specs.Certificate.{of_unstarted, of_worker_price, Claim};
 ghost use Rattle.certificate_checker.specs.Verdict.{IfFailed, IsCertified, IsFirstUnderpriced, IsVerdict};
 ghost use Rattle.certificate_checker.specs.Verdict.{MayComparePairs};

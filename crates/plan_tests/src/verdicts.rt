@@ -159,8 +159,8 @@ fn refused_in_another_problem(rt: HostRuntime) {
     }
 }
 
-// Worker a has three slots, whose places cost 0, 10 and 60, and worker b a slot whose place is free. The splits
-// s and t of above start on a, and have one price. So the reward is 191.
+// Worker a has three slots, whose places cost 0, 10 and 60, and worker b one slot, whose place is free. The
+// splits s and t of the rows above start on a, and have one price. So the reward is 191.
 fn answers_of_places<R: Abort + Threads + Sync>(
     rt: &R,
     alloc: Global,
@@ -184,7 +184,8 @@ fn answers_of_places<R: Abort + Threads + Sync>(
     )
 }
 
-// The price of a lies between those of its second place and its third, and what b asks for the splits.
+// The price of a is at least that of its second place. It is at most what b leaves, or where b is dead at most
+// that of its third place.
 #[test]
 fn certified_with_places(rt: HostRuntime) {
     let want = Certified {

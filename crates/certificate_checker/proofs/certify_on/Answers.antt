@@ -20,10 +20,13 @@ returns-clause-failed g c =
 pub returns-clause-best : goal.returns-clause-best
 returns-clause-best g c =
     let made : Claim = claim c.args.problem.now c.args.plan.now.starts c.args.prices.now in
+    let near = subst (λ (z : Claim). IsWithinReach z.wave.tree) c.new-checker.ensures.value
+    c.new-checker.ensures.near in
     certified-so made c.verdict_on.result
-    (certified-best made (subst (λ (z : Claim). IsWithinReach z.wave.tree) c.new-checker.ensures.value c.new-checker.ensures.near))
+    (certified-best made near)
     (returns-clause-certified g c)
 
 pub returns-clause-same : goal.returns-clause-same
 returns-clause-same g c answer verdict =
-    verdict-same _ c.verdict_on.result answer (returns-clause-certified g c) (returns-clause-failed g c) verdict
+    verdict-same _ c.verdict_on.result answer (returns-clause-certified g c) (returns-clause-failed g c)
+    verdict

@@ -10,7 +10,8 @@ use Rattle.certificate_checker.proofs.Verdicts.{verdict-refused, verdict-unique}
 use Rattle.certificate_checker.proofs.certify_places.Goals as goal
 
 pub returns-clause-verdict : goal.returns-clause-verdict
-returns-clause-verdict c = subst (λ (z : Claim). IsVerdict z c.verdict.result) c.with_places-checker.ensures.value c.verdict.ensures
+returns-clause-verdict c =
+    subst (λ (z : Claim). IsVerdict z c.verdict.result) c.with_places-checker.ensures.value c.verdict.ensures
 
 pub returns-clause-certified : goal.returns-clause-certified
 returns-clause-certified c = verdict-certifies _ c.verdict.result (returns-clause-verdict c)
@@ -32,11 +33,13 @@ returns-clause-places c =
 
 pub returns-clause-best : goal.returns-clause-best
 returns-clause-best c =
-    let made : Claim = charged_claim c.args.problem.now c.args.places.now c.args.plan.now.starts c.args.prices.now in
+    let made : Claim =
+    charged_claim c.args.problem.now c.args.places.now c.args.plan.now.starts c.args.prices.now in
+    let same = c.with_places-checker.ensures.value in
+    let near = subst (λ (z : Claim). IsWithinReach z.wave.tree) same c.with_places-checker.ensures.near in
+    let fit = subst (λ (z : Claim). All IsFitRow z.places) same c.with_places-checker.ensures.fit in
     certified-so made c.verdict.result
-    (certified-best_by_charge made
-    (subst (λ (z : Claim). IsWithinReach z.wave.tree) c.with_places-checker.ensures.value c.with_places-checker.ensures.near)
-    (subst (λ (z : Claim). All IsFitRow z.places) c.with_places-checker.ensures.value c.with_places-checker.ensures.fit))
+    (certified-best_by_charge made near fit)
     (verdict-certified made c.verdict.result (returns-clause-verdict c))
 
 pub returns-clause-refused : goal.returns-clause-refused

@@ -20,13 +20,16 @@ returns-clause-failed g c =
 
 pub returns-clause-best : goal.returns-clause-best
 returns-clause-best g c =
-    let made : Claim = charged_claim c.args.problem.now c.args.places.now c.args.plan.now.starts c.args.prices.now in
+    let made : Claim =
+    charged_claim c.args.problem.now c.args.places.now c.args.plan.now.starts c.args.prices.now in
+    let same = c.with_places-checker.ensures.value in
+    let near = subst (λ (z : Claim). IsWithinReach z.wave.tree) same c.with_places-checker.ensures.near in
+    let fit = subst (λ (z : Claim). All IsFitRow z.places) same c.with_places-checker.ensures.fit in
     certified-so made c.verdict_on.result
-    (certified-best_by_charge made
-    (subst (λ (z : Claim). IsWithinReach z.wave.tree) c.with_places-checker.ensures.value c.with_places-checker.ensures.near)
-    (subst (λ (z : Claim). All IsFitRow z.places) c.with_places-checker.ensures.value c.with_places-checker.ensures.fit))
+    (certified-best_by_charge made near fit)
     (returns-clause-certified g c)
 
 pub returns-clause-same : goal.returns-clause-same
 returns-clause-same g c answer verdict =
-    verdict-same _ c.verdict_on.result answer (returns-clause-certified g c) (returns-clause-failed g c) verdict
+    verdict-same _ c.verdict_on.result answer (returns-clause-certified g c) (returns-clause-failed g c)
+    verdict

@@ -12,7 +12,8 @@ certified-requires c = subst Certifies (sym c.new-checker.ensures.value) c.requi
 
 pub returns-clause-places : goal.returns-clause-places
 returns-clause-places c =
-    let told = subst (λ (z : Claim). IsCertified z c.certified.result) c.new-checker.ensures.value c.certified.ensures in
+    let told = subst (λ (z : Claim). IsCertified z c.certified.result) c.new-checker.ensures.value
+    c.certified.ensures in
     told.places ∙ charge-plain c.args.problem.now (pairs_of c.args.plan.now.starts)
 
 pub returns-clause-best : goal.returns-clause-best

@@ -9,5 +9,7 @@ pub returns-in-None : goal.returns-in-None
 returns-in-None c =
     let wave = c.args.self.now.wave in
     let pairs = pairs_of c.args.self.now.starts in
-    let free : [] ≡ c.args.self.now.places = rw c.in-None.is at (ap (λ (z : Claim). z.places) c.self.view_is) in
-    subst (λ (places : List (List ℕ)). 0 ≡ places_taken places wave pairs) free (sym (charge-plain wave pairs))
+    let free : [] ≡ c.args.self.now.places =
+    rw c.in-None.is at (ap (λ (z : Claim). z.places) c.self.view_is) in
+    subst (λ (places : List (List ℕ)). 0 ≡ places_taken places wave pairs) free
+    (sym (charge-plain wave pairs))

@@ -11,6 +11,6 @@ cost-total-requires c =
     let wave = c.args.self.now.wave in
     let within = subst IsWithinLimits c.problem.ensures c.limits.ensures.problem in
     let few : (worker_at wave c.new-worker.result).free ≤ MAX_SLOTS =
-    All-get_or (λ (worker : WorkerLine). worker.free ≤ MAX_SLOTS) wave.workers c.new-worker.result _ (omega arith)
-    within.slots in
+    All-get_or (λ (worker : WorkerLine). worker.free ≤ MAX_SLOTS) wave.workers c.new-worker.result _
+    (omega arith) within.slots in
     omega (arith, few, c.load.ensures, c.requires (Room c.new-worker.result))

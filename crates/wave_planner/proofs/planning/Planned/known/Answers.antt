@@ -1,5 +1,5 @@
 use Rattle.std.proofs.Common.{ℕ, ◌<◌, List, length, get_or, arith, refl, sym, ap, ◌∙◌, subst}
-use Rattle.wave_problem.specs.Assignment.{pairs_of}
+use Rattle.wave_problem.specs.Assignment.{pairs_of, total}
 use Rattle.wave_problem.proofs.Bound.{live_known, pending_known}
 use Rattle.wave_problem.proofs.Pairs.{pairs_started}
 use Rattle.price_certificate.specs.declared.Condition.TheVariants.{Allowed, Open}
@@ -52,8 +52,8 @@ invariant_of-result c = (
       one_size = c.requires.sizes;
       certified = record {
         certifies = c.requires.certifies;
-        count = omega arith;
-        cost = omega arith;
+        count = omega (arith, c.len.ensures, ap length c.requires.pairs);
+        cost = c.cost_of.ensures ∙ ap (total c.args.problem.now) (c.deref.ensures.value ∙ c.requires.pairs);
         places = sym (charge-plain c.args.problem.now (pairs_of c.args.plan.starts));
       };
     };
