@@ -16,13 +16,13 @@ use Rattle.line_shapes.specs.Demands.{HasShape, IsWithinIn, MeetsDemand}
 use Rattle.line_shapes.specs.Lines.{Differ, HasTailApart, IsShaped, Statement, tail_words}
 use Rattle.line_shapes.specs.Places.{more_of, places_of}
 use Rattle.line_shapes.specs.declared.keyword.Keyword.{Keyword}
-use Rattle.line_shapes.specs.declared.keyword.Keyword.TheVariants.{Split, Worker}
+use Rattle.line_shapes.specs.declared.keyword.Keyword.TheVariants.{Places, Split, Worker}
 use Rattle.line_shapes.specs.declared.place.Kind.{Kind}
 use Rattle.line_shapes.specs.declared.place.Place.{Place}
 use Rattle.line_shapes.specs.declared.place.Place.TheVariants.{New, Used}
 use Rattle.line_rules.specs.Entering.{key_of, most_more_of}
-use Rattle.line_rules.specs.Faults.{AreInRange, IsComplete, IsDeclaredIn, IsFew, IsFirstOfBody, IsOfSize}
-use Rattle.line_rules.specs.Faults.{IsFirstOfHead, IsFreeIn, IsLeastOf, IsNew, IsWithinLimit, Keep}
+use Rattle.line_rules.specs.Faults.{AreInRange, AreRising, IsComplete, IsDeclaredIn, IsFew, IsFirstOfBody}
+use Rattle.line_rules.specs.Faults.{IsFirstOfHead, IsFreeIn, IsLeastOf, IsNew, IsOfSize, IsWithinLimit, Keep}
 use Rattle.line_rules.specs.Faults.{MayStand, Meets, most_bytes, most_slots}
 use Rattle.line_rules.specs.Known.{Known}
 use Rattle.line_rules.specs.Names.{IsNamed, name_demand}
@@ -88,6 +88,12 @@ size_same version Split ws xs vs past small =
 size_same version Worker ws xs vs past small =
     small_same 2 (most_slots version) ws xs vs (omega (arith, past)) small
 size_same version word ws xs vs past small = tt
+
+-- prices of places do not follow where names may
+names_rise : (word : Keyword) (kind : Kind) (ws : List Word) → more_of word ≡ Some (Used kind)
+    → AreRising word ws
+names_rise Places kind ws used = cc
+names_rise word kind ws used = tt
 
 head_same : (section : Section) (rows : List Statement) (s t : Statement) → key_of s ≡ key_of t
     → IsFirstOfHead section rows s → IsFirstOfHead section rows t
@@ -176,6 +182,7 @@ module _ (k : Known) (word : Keyword) (ws vs : List Word) (v : Word)
     in_range_less within = record {
       places = each_less IsWithinIn word ws vs v past one within.places;
       size = size_same k.version word ws vs (v ∷ []) past within.size;
+      rising = names_rise word kind (ws ++ v ∷ []) used;
     }
 
     in_range_more : AreInRange k.version short → AreInRange k.version long
@@ -183,6 +190,7 @@ module _ (k : Known) (word : Keyword) (ws vs : List Word) (v : Word)
       places = each_more IsWithinIn word ws vs v past
           (λ i d lt. subst (λ place. IsWithinIn place (get_or vs i d)) (sym used) tt) within.places;
       size = size_same k.version word ws (v ∷ []) vs past within.size;
+      rising = names_rise word kind (ws ++ vs) used;
     }
 
     tail_less : length (tail_words short) ≤ length (tail_words long)

@@ -16,6 +16,7 @@ pub mod Least
 pub mod Saying
 pub mod FitLines
 pub mod ReadTo
+pub mod Rises
 pub mod Sound
 pub mod Apart
 pub mod EachPlace

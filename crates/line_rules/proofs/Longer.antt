@@ -1,5 +1,5 @@
 -- A line with more words than it may have is answered as if one of those past them stood for all.
-use Rattle.std.proofs.Common.{ℕ, List, [], ◌∷◌, ◌++◌, ◌≡◌, ◌≤◌, ◌<◌, ◌+◌, ◌∙◌, Some, None}
+use Rattle.std.proofs.Common.{ℕ, List, [], ◌∷◌, ◌++◌, ◌≡◌, ◌≢◌, ◌≤◌, ◌<◌, ◌+◌, ◌∙◌, Option, Some, None}
 use Rattle.std.proofs.Common.{arith, drop, get_or, length, length-append, length-drop, refl}
 use Rattle.std.proofs.Common.{subst, sym}
 use Rattle.std.specs.List.{All, Contains}
@@ -14,12 +14,13 @@ use Rattle.line_shapes.specs.Places.{more_of, places_of}
 use Rattle.line_shapes.specs.declared.keyword.Keyword.{Keyword}
 use Rattle.line_shapes.specs.declared.keyword.Keyword.TheVariants as keyword
 use Rattle.line_shapes.specs.declared.place.Place.TheVariants.{Text}
-use Rattle.line_rules.specs.Entering.{follow_of, most_holders}
-use Rattle.line_rules.specs.Faults.{AreAsMany, IsComplete, IsDeclaredIn}
+use Rattle.line_rules.specs.Entering.{follow_of, most_holders, most_more_of}
+use Rattle.line_rules.specs.declared.entering.Follow.{Follow}
+use Rattle.line_rules.specs.declared.entering.Follow.TheVariants.{Any, Centre, Counts, Slots}
+use Rattle.line_rules.specs.Faults.{IsComplete, IsDeclaredIn, MayFollow}
 use Rattle.line_rules.specs.Faults.{IsLeastOf, IsWithinLimit, Keep}
-use Rattle.line_rules.specs.Faults.{follows}
 use Rattle.line_rules.specs.Known.{HasRow, Known, rows_of}
-use Rattle.line_rules.specs.Long.{IsUsed, IsWorst, StandsFor, WordsHave, most_words, said}
+use Rattle.line_rules.specs.Long.{IsUsed, IsWorst, StandsFor, WordsHave, most_more, most_words, said}
 use Rattle.line_rules.specs.declared.rule.Rule.TheVariants as rule
 use Rattle.line_rules.proofs.Apart.{few_names}
 use Rattle.line_rules.proofs.Crowded.{crowd_stands}
@@ -63,12 +64,24 @@ tail_longer : (word : Keyword) (ws vs : List Word) (n : ℕ) → length (places_
 tail_longer word ws vs n past some =
     omega (arith, length-drop (length (places_of word)) (ws ++ vs), length-append ws vs, past, some)
 
--- more words follow than have to
-too_many : (k : Known) (s : Statement) (wanted : ℕ) → follows (follow_of s.keyword) k ≡ Some wanted
-    → wanted < length (tail_words s) → IsComplete k s → ⊥
-too_many k s wanted are more whole =
-    let same : length (tail_words s) ≡ wanted = subst (λ o. AreAsMany o (length (tail_words s))) are whole in
-    omega (arith, same, more)
+-- no more words follow than may, where that is told
+follow_few : (k : Known) (f : Follow) (few : Option ℕ) (n : ℕ) → f ≢ Any → MayFollow f k n
+    → n ≤ most_more f few k
+follow_few k Any few n told may = absurd (told refl)
+follow_few k Centre few n told may = omega (arith, may)
+follow_few k Counts few n told may = omega (arith, may)
+follow_few k Slots few n told may = may
+
+-- more words follow than may
+too_many : (k : Known) (word : Keyword) (ws xs : List Word) → follow_of word ≢ Any
+    → most_words k word ≤ length ws → 0 < length xs → IsComplete k (said word (ws ++ xs)) → ⊥
+too_many k word ws xs told past some whole =
+    let few : Option ℕ = most_more_of k.version word in
+    omega (
+      arith,
+      tail_longer word ws xs (most_more (follow_of word) few k) past some,
+      follow_few k (follow_of word) few (length (tail_words (said word (ws ++ xs)))) told whole,
+    )
 
 -- ---- the two keywords whose names may be any number
 
@@ -126,27 +139,26 @@ placeless k word ws vs v past one none =
     (λ shaped whole. no_place word ws (v ∷ []) past (omega arith) none shaped)
     (λ shaped whole. no_place word ws vs past (some_left vs v one) none shaped)
 
--- where so many have to follow them
-incomplete : (k : Known) (word : Keyword) (ws vs : List Word) (v : Word) (n : ℕ)
-    → follows (follow_of word) k ≡ Some n → length (places_of word) + n ≤ length ws → Contains vs v
-    → StandsFor k word (ws ++ v ∷ []) (ws ++ vs)
-incomplete k word ws vs v n are past one =
+-- where it is told how many may follow them
+incomplete : (k : Known) (word : Keyword) (ws vs : List Word) (v : Word) → follow_of word ≢ Any
+    → most_words k word ≤ length ws → Contains vs v → StandsFor k word (ws ++ v ∷ []) (ws ++ vs)
+incomplete k word ws vs v told past one =
     both_shapeless k word (ws ++ v ∷ []) (ws ++ vs)
-    (λ shaped. too_many k (said word (ws ++ v ∷ [])) n are
-    (tail_longer word ws (v ∷ []) n past (omega arith)))
-    (λ shaped. too_many k (said word (ws ++ vs)) n are
-    (tail_longer word ws vs n past (some_left vs v one)))
+    (λ shaped. too_many k word ws (v ∷ []) told past (omega arith))
+    (λ shaped. too_many k word ws vs told past (some_left vs v one))
 
 pub stands : (k : Known) (word : Keyword) (ws vs : List Word) (v : Word) → most_words k word ≤ length ws
     → Contains vs v → (more_of word ≡ Some Text → ⊥)
     → (IsUsed (more_of word) → IsWorst k.version k.rows (more_of word) vs v)
     → StandsFor k word (ws ++ v ∷ []) (ws ++ vs)
 stands k keyword.Rack ws vs v past one not_text worst =
-    incomplete k keyword.Rack ws vs v _ refl past one
+    incomplete k keyword.Rack ws vs v (λ e. cc) past one
+stands k keyword.Places ws vs v past one not_text worst =
+    incomplete k keyword.Places ws vs v (λ e. cc) past one
 stands k keyword.Ahead ws vs v past one not_text worst =
-    incomplete k keyword.Ahead ws vs v _ refl past one
+    incomplete k keyword.Ahead ws vs v (λ e. cc) past one
 stands k keyword.Sweep ws vs v past one not_text worst =
-    incomplete k keyword.Sweep ws vs v _ refl past one
+    incomplete k keyword.Sweep ws vs v (λ e. cc) past one
 stands k keyword.Split ws vs v past one not_text worst = long_split k ws vs v past one (worst tt)
 stands k keyword.Join ws vs v past one not_text worst = long_join k ws vs v past one (worst tt)
 stands k keyword.Doc ws vs v past one not_text worst = absurd (not_text refl)

@@ -21,7 +21,7 @@ use denote.Enum.Declared.{tag_of}
 abbrev pub number : Keyword → ℕ
 number k = tag_of the_type k
 
-number_below : (k : Keyword) → number k < 32
+number_below : (k : Keyword) → number k < 33
 number_below Problem = omega arith
 number_below k = omega arith
 
@@ -30,7 +30,7 @@ pub list_at : (rows : List Statement) (vs : List (Vec ℕ Global)) → ArePlaced
     → (k : Keyword) (d v : Vec ℕ Global) → v ≡ get_or vs (number k) d
     → v.items ≡ places_of (map (λ v. v.items) vs) k
 list_at rows vs placed k d v is =
-    let each : length vs ≡ 32 = sym (length-map vs (λ v. v.items)) ∙ placed.each in
+    let each : length vs ≡ 33 = sym (length-map vs (λ v. v.items)) ∙ placed.each in
     let below : number k < length vs = omega (arith, each, number_below k) in
     ap (λ (v : Vec ℕ Global). v.items) is ∙ sym (get_or-map (λ v. v.items) vs (number k) d [] below)
 

@@ -8,7 +8,7 @@ use Rattle.line_rules.specs.declared.entering.Entering.{Entering}
 use Rattle.line_rules.specs.declared.entering.Entering.TheVariants.{Nothing, InTurn, Alone, Word as ByWord}
 use Rattle.line_rules.specs.declared.entering.Entering.TheVariants.{Pair as ByPair}
 use Rattle.line_rules.specs.declared.entering.Follow.{Follow}
-use Rattle.line_rules.specs.declared.entering.Follow.TheVariants.{Any, Centre, Counts}
+use Rattle.line_rules.specs.declared.entering.Follow.TheVariants.{Any, Centre, Counts, Slots}
 use Rattle.line_rules.specs.declared.purpose.Purpose.{Purpose}
 use Rattle.line_rules.specs.declared.edition.Version.{Version}
 use Rattle.line_rules.specs.declared.edition.Version.TheVariants.{One, Two, Three}
@@ -26,6 +26,7 @@ entering_of keyword.Split = ByWord
 entering_of keyword.Barred = ByPair
 entering_of keyword.Dead = ByWord
 entering_of keyword.Busy = ByWord
+entering_of keyword.Places = ByWord
 entering_of keyword.Parts = Alone
 entering_of keyword.Target = Alone
 entering_of keyword.Silence = Alone
@@ -104,6 +105,7 @@ most_more_of version k = None
 -- which words have to follow them
 abbrev pub follow_of : Keyword → Follow
 follow_of keyword.Rack = Centre
+follow_of keyword.Places = Slots
 follow_of keyword.Ahead = Counts
 follow_of keyword.Sweep = Counts
 follow_of k = Any

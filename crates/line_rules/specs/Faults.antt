@@ -1,6 +1,8 @@
 -- The faults of a line that says a statement, in view of the lines before it.
-use Rattle.std.specs.Prelude.{ℕ, List, [], ◌≡◌, ◌≤◌, ◌<◌, Option, Some, None, length, slice_index_or, true}
+use Rattle.std.specs.Prelude.{ℕ, List, [], ◌≡◌, ◌≤◌, ◌<◌, Option, Some, None, drop, length, slice_index_or}
+use Rattle.std.specs.Prelude.{true}
 use Rattle.std.specs.List.{All, Contains}
+use Rattle.std.specs.List.Sorted.{IsNonDecreasingBy}
 use Rattle.text_lines.specs.Texts.{Word, number_of}
 use Rattle.text_lines.specs.Faults.{number_of_fault}
 use Rattle.text_lines.specs.declared.fault.Fault.{Fault}
@@ -18,7 +20,7 @@ use Rattle.line_rules.specs.declared.edition.Version.TheVariants.{One, Two, Thre
 use Rattle.line_rules.specs.declared.entering.Entering.{Entering}
 use Rattle.line_rules.specs.declared.entering.Entering.TheVariants as by
 use Rattle.line_rules.specs.declared.entering.Follow.{Follow}
-use Rattle.line_rules.specs.declared.entering.Follow.TheVariants.{Any, Centre, Counts}
+use Rattle.line_rules.specs.declared.entering.Follow.TheVariants.{Any, Centre, Counts, Slots}
 use Rattle.line_rules.specs.declared.purpose.Purpose.{Purpose}
 use Rattle.line_rules.specs.declared.purpose.Purpose.TheVariants.{Checking}
 use Rattle.line_rules.specs.declared.rule.Rule.{Rule}
@@ -38,19 +40,17 @@ centres_in One = 0
 centres_in Two = 1
 centres_in Three = 1
 
--- how many words have to follow those in the places of a line, where that is told
-abbrev pub follows : Follow → Known → Option ℕ
-follows Any k = None
-follows Centre k = Some (centres_in k.version)
-follows Counts k = Some (length (rows_of keyword.Worker k.rows))
-
-abbrev pub AreAsMany : Option ℕ → ℕ → Type 0
-AreAsMany None n = Unit {0}
-AreAsMany (Some wanted) n = n ≡ wanted
+-- so many words may follow those in the places of a line; of prices of places, as many as a worker may have
+-- slots, of which the first stands in the places
+abbrev pub MayFollow : Follow → Known → ℕ → Type 0
+MayFollow Any k n = Unit {0}
+MayFollow Centre k n = n ≡ centres_in k.version
+MayFollow Counts k n = n ≡ length (rows_of keyword.Worker k.rows)
+MayFollow Slots k n = n ≤ 254
 
 -- as many words follow as have to
 abbrev pub IsComplete : Known → Statement → Type 0
-IsComplete k s = AreAsMany (follows (follow_of s.keyword) k) (length (tail_words s))
+IsComplete k s = MayFollow (follow_of s.keyword) k (length (tail_words s))
 
 -- the kind of text has such a line in this section, and in this version
 abbrev pub MayStand : Known → Statement → Type 0
@@ -134,10 +134,16 @@ IsOfSize version keyword.Split ws = number_of (slice_index_or ws 1 []) ≤ most_
 IsOfSize version keyword.Worker ws = number_of (slice_index_or ws 2 []) ≤ most_slots version
 IsOfSize version k ws = Unit {0}
 
+-- of these words after their keyword, no price of a place is lower than the one before it
+abbrev pub AreRising : Keyword → List Word → Type 0
+AreRising keyword.Places ws = IsNonDecreasingBy number_of (drop 1 ws)
+AreRising k ws = Unit {0}
+
 -- each number is within the range of its place, in this version
 pub record AreInRange (version : Version) (s : Statement) : Type 0 where
   pub places : IsInRange s
   pub size : IsOfSize version s.keyword s.words
+  pub rising : AreRising s.keyword s.words
 
 -- a split or a worker has a price
 abbrev pub HasItsPrice : List Statement → Key → Type 0

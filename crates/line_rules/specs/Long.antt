@@ -15,7 +15,7 @@ use Rattle.line_shapes.specs.declared.place.Place.{Place}
 use Rattle.line_shapes.specs.declared.place.Place.TheVariants.{Used}
 use Rattle.line_rules.specs.declared.edition.Version.{Version}
 use Rattle.line_rules.specs.declared.entering.Follow.{Follow}
-use Rattle.line_rules.specs.declared.entering.Follow.TheVariants.{Any, Centre, Counts}
+use Rattle.line_rules.specs.declared.entering.Follow.TheVariants.{Any, Centre, Counts, Slots}
 use Rattle.line_rules.specs.Entering.{follow_of, most_more_of}
 use Rattle.line_rules.specs.Faults.{Fails, IsComplete, IsDeclaredIn, IsLeastOf, IsFit, centres_in}
 use Rattle.line_rules.specs.Known.{Known, rows_of}
@@ -26,6 +26,7 @@ use Rattle.line_rules.specs.Names.{name_demand}
 abbrev pub most_more : Follow → Option ℕ → Known → ℕ
 most_more Centre few k = centres_in k.version
 most_more Counts few k = length (rows_of keyword.Worker k.rows)
+most_more Slots few k = 254
 most_more Any (Some most) k = most
 most_more Any None k = length (rows_of keyword.Split k.rows)
 

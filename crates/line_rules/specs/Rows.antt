@@ -120,7 +120,7 @@ places_of lists k = slice_index_or lists (tag_of the_type k) []
 
 -- each list has the places of the rows of its keyword, in their order
 pub record ArePlaced (rows : List Statement) (lists : List (List ℕ)) : Type 0 where
-  pub each : length lists ≡ 32
+  pub each : length lists ≡ 33
   pub inside : (k : Keyword) → All (λ p. p < length rows) (places_of lists k)
   pub listed : (k : Keyword) (d : Statement) → map (λ p. slice_index_or rows p d) (places_of lists k)
       ≡ rows_of k rows

@@ -8,6 +8,7 @@ use Rattle.line_shapes.specs.declared.keyword.Keyword.TheVariants.{Split, Barred
 use Rattle.line_shapes.specs.declared.keyword.Keyword.TheVariants.{Silence, Doc, Plan, Start, Price, Begin}
 use Rattle.line_shapes.specs.declared.keyword.Keyword.TheVariants.{Wave, Ahead, Done, Fail, Withdraw, Die, Join}
 use Rattle.line_shapes.specs.declared.keyword.Keyword.TheVariants.{Add, Lose, Sweep, Reduce, Copies, Backup, End}
+use Rattle.line_shapes.specs.declared.keyword.Keyword.TheVariants.{Places}
 use Rattle.line_rules.specs.declared.edition.Edition.{Edition}
 use Rattle.line_rules.specs.declared.edition.Edition.TheVariants.{Tells, Each, Second, Third}
 use Rattle.line_rules.specs.declared.edition.Version.{Version}
@@ -27,6 +28,7 @@ in_check Split = Some Head
 in_check Barred = Some Head
 in_check Dead = Some Head
 in_check Busy = Some Head
+in_check Places = Some Head
 in_check Plan = Some Head
 in_check Start = Some Body
 in_check Price = Some Body
@@ -107,6 +109,7 @@ section_after Split = Head
 section_after Barred = Head
 section_after Dead = Head
 section_after Busy = Head
+section_after Places = Head
 section_after Parts = Head
 section_after Target = Head
 section_after Silence = Head
@@ -124,6 +127,7 @@ edition_of Job = Tells
 edition_of Centre = Second
 edition_of Backup = Second
 edition_of Ahead = Third
+edition_of Places = Third
 edition_of k = Each
 
 abbrev pub version_told : List Word → Version

@@ -11,7 +11,7 @@ pub enum Version {
     One,
     /// With data centres and backup attempts.
     Two,
-    /// With long names, large splits, greater limits and queues too.
+    /// With long names, large splits, greater limits, queues and prices of places too.
     Three,
 }
 
@@ -35,7 +35,7 @@ pub fn edition_of(keyword: Keyword) -> Edition
     match keyword {
         Keyword::Problem | Keyword::Script | Keyword::Job => Edition::Tells,
         Keyword::Centre | Keyword::Backup => Edition::Second,
-        Keyword::Ahead => Edition::Third,
+        Keyword::Ahead | Keyword::Places => Edition::Third,
         Keyword::Rack | Keyword::Worker | Keyword::Split => Edition::Each,
         Keyword::Barred | Keyword::Dead | Keyword::Busy => Edition::Each,
         Keyword::Parts | Keyword::Target | Keyword::Silence | Keyword::Doc => Edition::Each,

@@ -35,7 +35,12 @@ pub enum Follow {
     Centre,
     /// A number for each worker that was declared.
     Counts,
+    /// No more than may stand with the first of them for the slots of a worker.
+    Slots,
 }
+
+/// How many prices of places may follow the first, since a worker has at most 255 slots.
+pub const MORE_PLACES: usize = 254;
 
 /// How the lines of a keyword are entered.
 pub fn entering_of(keyword: Keyword) -> Entering
@@ -46,7 +51,7 @@ pub fn entering_of(keyword: Keyword) -> Entering
         Keyword::Begin | Keyword::End => Entering::Nothing,
         Keyword::Centre | Keyword::Rack | Keyword::Worker | Keyword::Split => Entering::Word,
         Keyword::Dead | Keyword::Busy | Keyword::Doc | Keyword::Start => Entering::Word,
-        Keyword::Price => Entering::Word,
+        Keyword::Price | Keyword::Places => Entering::Word,
         Keyword::Barred => Entering::Pair,
         Keyword::Parts | Keyword::Target | Keyword::Silence => Entering::Alone,
         Keyword::Wave | Keyword::Done | Keyword::Fail | Keyword::Withdraw => Entering::InTurn,
@@ -64,7 +69,7 @@ pub fn most_of(version: Version, purpose: Purpose, keyword: Keyword) -> Option<u
         Keyword::Problem | Keyword::Script | Keyword::Job | Keyword::Barred => None,
         Keyword::Dead | Keyword::Busy | Keyword::Parts | Keyword::Target => None,
         Keyword::Silence | Keyword::Plan | Keyword::Start | Keyword::Price => None,
-        Keyword::Begin | Keyword::End => None,
+        Keyword::Begin | Keyword::End | Keyword::Places => None,
         Keyword::Centre => Some(newer_limit(version, 8, 256)),
         Keyword::Rack => Some(newer_limit(version, 32, 4096)),
         Keyword::Worker => Some(most_workers(version, purpose)),
@@ -131,7 +136,7 @@ pub fn most_more_of(version: Version, keyword: Keyword) -> Option<usize>
         Keyword::Plan | Keyword::Start | Keyword::Price | Keyword::Begin | Keyword::Wave => None,
         Keyword::Done | Keyword::Fail | Keyword::Withdraw | Keyword::Die | Keyword::Join => None,
         Keyword::Add | Keyword::Lose | Keyword::Sweep | Keyword::Reduce | Keyword::Copies => None,
-        Keyword::Ahead | Keyword::Backup | Keyword::End => None,
+        Keyword::Ahead | Keyword::Backup | Keyword::End | Keyword::Places => None,
         Keyword::Split => Some(most_holders(version)),
     }
 }
@@ -158,6 +163,7 @@ pub fn follow_of(keyword: Keyword) -> Follow
         Keyword::End => Follow::Any,
         Keyword::Rack => Follow::Centre,
         Keyword::Ahead | Keyword::Sweep => Follow::Counts,
+        Keyword::Places => Follow::Slots,
     }
 }
 
@@ -172,7 +178,7 @@ pub fn is_priced(keyword: Keyword) -> bool
         Keyword::Start | Keyword::Price | Keyword::Begin | Keyword::Wave | Keyword::Done => false,
         Keyword::Fail | Keyword::Withdraw | Keyword::Die | Keyword::Join | Keyword::Add => false,
         Keyword::Lose | Keyword::Sweep | Keyword::Reduce | Keyword::Copies => false,
-        Keyword::Ahead | Keyword::Backup | Keyword::End => false,
+        Keyword::Ahead | Keyword::Backup | Keyword::End | Keyword::Places => false,
         Keyword::Worker | Keyword::Split => true,
     }
 }

@@ -22,8 +22,9 @@ ghost use Rattle.line_rules.specs.declared.section.Section.TheVariants.{Body};
 
 use crate::command_list::CommandList;
 use crate::edition::{Version, is_of_version, name_demand, version_after};
-use crate::entering::{Entering, Follow, entering_of, follow_of, most_of};
+use crate::entering::{Entering, Follow, MORE_PLACES, entering_of, follow_of, most_of};
 use crate::purpose::Purpose;
+use crate::rising::are_rising;
 use crate::rows::{FEW_NAMES, Rows};
 use crate::rule::Rule;
 use crate::rules::{
@@ -154,6 +155,7 @@ impl<'t> KnownLines<'t> {
             Follow::Any => true,
             Follow::Centre => words == centres_in(self.version),
             Follow::Counts => words == self.rows.count(Keyword::Worker),
+            Follow::Slots => words <= MORE_PLACES,
         }
     }
 
@@ -186,7 +188,7 @@ impl<'t> KnownLines<'t> {
         requires { IsTrue fit → AreFit self.now.version self.now.rows (statement_of line.now) }
         ensures { IsTrue result ↔ AreInRange self.now.version (statement_of line.now) }
     {
-        (fit || line.is_in_range()) && is_of_size(self.version, line)
+        (fit || line.is_in_range()) && is_of_size(self.version, line) && are_rising(line)
     }
 
     fn is_within_limit(&self, line: &KeyedLine<'_, '_>) -> bool

@@ -25,6 +25,7 @@ pub mod line_reader;
 mod long;
 pub mod one_line;
 pub mod purpose;
+mod rising;
 pub mod rows;
 pub mod rule;
 pub mod rules;

@@ -11,7 +11,7 @@ ghost use Rattle.line_rules.specs.Long.{most_more as most_after};
 ghost use Rattle.line_rules.specs.Long.{most_words as most};
 
 use crate::edition::{Version, name_demand};
-use crate::entering::{Follow, follow_of, most_more_of};
+use crate::entering::{Follow, MORE_PLACES, follow_of, most_more_of};
 use crate::fit::is_fit;
 use crate::known::{KnownLines, centres_in};
 use crate::rows::Rows;
@@ -63,6 +63,7 @@ fn most_more(known: &KnownLines<'_>, keyword: Keyword) -> usize
     match follow_of(keyword) {
         Follow::Centre => centres_in(known.version()),
         Follow::Counts => known.rows().count(Keyword::Worker),
+        Follow::Slots => MORE_PLACES,
         Follow::Any => match most_more_of(known.version(), keyword) {
             Some(most) => most,
             None => known.rows().count(Keyword::Split),

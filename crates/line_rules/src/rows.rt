@@ -26,7 +26,7 @@ use std::hash::Hash;
 use std::marker::Model;
 
 // How many keywords there are.
-const KEYWORDS: usize = 32;
+const KEYWORDS: usize = 33;
 
 // How many marks the small table has, in which splits are told apart by their numbers.
 const MARKS: usize = 1_024;
@@ -579,7 +579,7 @@ fn split_in(firsts: &IndexMap<&str, (Keyword, u32)>, name: &str) -> Option<u32>
 
 // No places, for each keyword.
 fn no_places(alloc: Global) -> Result<Vec<Vec<usize>>, AllocError>
-    ensures { IfOk result (λ lists. map (λ l. l.items) lists.items ≡ replicate 32 []) }
+    ensures { IfOk result (λ lists. map (λ l. l.items) lists.items ≡ replicate 33 []) }
 {
     let mut lists = Vec::new(alloc);
     for _ in 0..KEYWORDS {

@@ -42,6 +42,7 @@ fn section_in_check(keyword: Keyword) -> Option<Section>
         Keyword::Ahead | Keyword::Backup => None,
         Keyword::Centre | Keyword::Rack | Keyword::Worker | Keyword::Split => Some(Section::Head),
         Keyword::Barred | Keyword::Dead | Keyword::Busy | Keyword::Plan => Some(Section::Head),
+        Keyword::Places => Some(Section::Head),
         Keyword::Start | Keyword::Price | Keyword::End => Some(Section::Body),
     }
 }
@@ -56,6 +57,7 @@ fn section_in_plan(keyword: Keyword) -> Option<Section>
         Keyword::Begin | Keyword::Wave | Keyword::Ahead | Keyword::Done | Keyword::Fail => None,
         Keyword::Withdraw | Keyword::Die | Keyword::Join | Keyword::Add | Keyword::Lose => None,
         Keyword::Sweep | Keyword::Reduce | Keyword::Copies | Keyword::Backup => None,
+        Keyword::Places => None,
         Keyword::Centre | Keyword::Rack | Keyword::Worker | Keyword::Split => Some(Section::Head),
         Keyword::Barred | Keyword::Dead | Keyword::Busy | Keyword::End => Some(Section::Head),
     }
@@ -66,7 +68,7 @@ fn section_in_script(keyword: Keyword) -> Option<Section>
 {
     match keyword {
         Keyword::Problem | Keyword::Job | Keyword::Barred | Keyword::Dead | Keyword::Busy => None,
-        Keyword::Plan | Keyword::Start | Keyword::Price => None,
+        Keyword::Plan | Keyword::Start | Keyword::Price | Keyword::Places => None,
         Keyword::Script => Some(Section::First),
         Keyword::Centre | Keyword::Rack | Keyword::Worker | Keyword::Split => Some(Section::Head),
         Keyword::Parts | Keyword::Target | Keyword::Silence | Keyword::Doc => Some(Section::Head),
@@ -86,7 +88,7 @@ fn section_in_job(keyword: Keyword) -> Option<Section>
         Keyword::Busy | Keyword::Plan | Keyword::Start | Keyword::Price | Keyword::Begin => None,
         Keyword::Wave | Keyword::Done | Keyword::Fail | Keyword::Withdraw | Keyword::Die => None,
         Keyword::Join | Keyword::Add | Keyword::Lose | Keyword::Sweep | Keyword::Reduce => None,
-        Keyword::Ahead | Keyword::Copies | Keyword::Backup => None,
+        Keyword::Ahead | Keyword::Copies | Keyword::Backup | Keyword::Places => None,
         Keyword::Job => Some(Section::First),
         Keyword::Centre | Keyword::Rack | Keyword::Worker | Keyword::Split => Some(Section::Head),
         Keyword::Parts | Keyword::Target | Keyword::Silence | Keyword::Doc => Some(Section::Head),
@@ -102,7 +104,7 @@ pub fn section_after(keyword: Keyword) -> Section
         Keyword::Problem | Keyword::Script | Keyword::Job | Keyword::Centre => Section::Head,
         Keyword::Rack | Keyword::Worker | Keyword::Split | Keyword::Barred => Section::Head,
         Keyword::Dead | Keyword::Busy | Keyword::Parts | Keyword::Target => Section::Head,
-        Keyword::Silence | Keyword::Doc => Section::Head,
+        Keyword::Silence | Keyword::Doc | Keyword::Places => Section::Head,
         Keyword::Plan | Keyword::Start | Keyword::Price | Keyword::Begin => Section::Body,
         Keyword::Wave | Keyword::Done | Keyword::Fail | Keyword::Withdraw => Section::Body,
         Keyword::Die | Keyword::Join | Keyword::Add | Keyword::Lose => Section::Body,

@@ -17,6 +17,7 @@ use Rattle.line_shapes.specs.declared.keyword.Keyword.TheVariants.{Split, Barred
 use Rattle.line_shapes.specs.declared.keyword.Keyword.TheVariants.{Silence, Doc, Plan, Start, Price, Begin}
 use Rattle.line_shapes.specs.declared.keyword.Keyword.TheVariants.{Wave, Ahead, Done, Fail, Withdraw, Die, Join}
 use Rattle.line_shapes.specs.declared.keyword.Keyword.TheVariants.{Add, Lose, Sweep, Reduce, Copies, Backup, End}
+use Rattle.line_shapes.specs.declared.keyword.Keyword.TheVariants.{Places}
 use Rattle.line_shapes.specs.declared.place.Place.{Place}
 use Rattle.line_shapes.specs.declared.place.Place.TheVariants.{Text}
 use borrow.Author.Tests.{ltb-true}
@@ -35,6 +36,7 @@ keyword_told w =
     else if bytes_eq w (spelling_of Barred) then Barred
     else if bytes_eq w (spelling_of Dead) then Dead
     else if bytes_eq w (spelling_of Busy) then Busy
+    else if bytes_eq w (spelling_of Places) then Places
     else if bytes_eq w (spelling_of Parts) then Parts
     else if bytes_eq w (spelling_of Target) then Target
     else if bytes_eq w (spelling_of Silence) then Silence

@@ -6,7 +6,7 @@ use Rattle.line_shapes.specs.declared.keyword.Keyword.TheVariants.{Worker, Split
 use Rattle.line_shapes.specs.declared.keyword.Keyword.TheVariants.{Target, Silence, Doc, Plan, Start, Price}
 use Rattle.line_shapes.specs.declared.keyword.Keyword.TheVariants.{Begin, Wave, Ahead, Done, Fail, Withdraw}
 use Rattle.line_shapes.specs.declared.keyword.Keyword.TheVariants.{Die, Join, Add, Lose, Sweep, Reduce}
-use Rattle.line_shapes.specs.declared.keyword.Keyword.TheVariants.{Copies, Backup, End}
+use Rattle.line_shapes.specs.declared.keyword.Keyword.TheVariants.{Copies, Backup, End, Places}
 
 abbrev pub spelling_of : Keyword → List ℕ
 spelling_of Problem = codes "problem"
@@ -19,6 +19,7 @@ spelling_of Split = codes "split"
 spelling_of Barred = codes "barred"
 spelling_of Dead = codes "dead"
 spelling_of Busy = codes "busy"
+spelling_of Places = codes "places"
 spelling_of Parts = codes "parts"
 spelling_of Target = codes "target"
 spelling_of Silence = codes "silence"
@@ -47,6 +48,7 @@ abbrev pub is_of_few : Keyword → Bool
 is_of_few Barred = true
 is_of_few Dead = true
 is_of_few Busy = true
+is_of_few Places = true
 is_of_few Centre = true
 is_of_few Parts = true
 is_of_few Target = true

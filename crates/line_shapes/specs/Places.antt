@@ -19,6 +19,7 @@ places_of keyword.Split = New ∷ Number 0 8589934592 ∷ []
 places_of keyword.Barred = Used kind.Split ∷ Used kind.Worker ∷ []
 places_of keyword.Dead = Used kind.Worker ∷ []
 places_of keyword.Busy = Used kind.Split ∷ []
+places_of keyword.Places = Used kind.Worker ∷ Number 0 68719476736 ∷ []
 places_of keyword.Parts = Number 1 64 ∷ []
 places_of keyword.Target = Number 1 8 ∷ []
 places_of keyword.Silence = Number 1 1000 ∷ []
@@ -46,6 +47,7 @@ places_of keyword.End = []
 abbrev pub more_of : Keyword → Option Place
 more_of keyword.Rack = Some (Used kind.Centre)
 more_of keyword.Split = Some (Used kind.Worker)
+more_of keyword.Places = Some (Number 0 68719476736)
 more_of keyword.Doc = Some Text
 more_of keyword.Join = Some (Used kind.Split)
 more_of keyword.Ahead = Some (Number 0 255)

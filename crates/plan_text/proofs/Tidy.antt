@@ -64,6 +64,7 @@ module _ (rows more : List Statement) where
     named = h.named;
     known = keep-more s h.known;
     in_range = h.in_range;
+    rising = h.rising;
     few = h.few;
     tail_apart = h.tail_apart;
   }
@@ -163,6 +164,7 @@ tidy_of k s whole fit = record {
   named = named_long k.version s fit.named;
   known = fit.known;
   in_range = fit.in_range.places;
+  rising = fit.in_range.rising;
   few = few-newest k.version s.keyword (length (tail_words s)) fit.within_limit.few;
   tail_apart = fit.tail_apart;
 }

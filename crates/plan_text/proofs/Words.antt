@@ -7,10 +7,11 @@ use Rattle.text_lines.specs.Texts.{Word}
 use Rattle.line_shapes.specs.Lines.{Statement}
 use Rattle.line_shapes.specs.declared.keyword.Keyword.{Keyword}
 use Rattle.line_shapes.specs.declared.keyword.Keyword.TheVariants.{Rack, Worker, Split, Barred, Start, Price}
+use Rattle.line_shapes.specs.declared.keyword.Keyword.TheVariants.{Places}
 use Rattle.line_rules.specs.Known.{HasRow, is_of, nth_row, rows_of}
 use Rattle.plan_text.specs.Names.{names_of}
 use Rattle.plan_text.specs.Tidy.{AreTidy, IsTidyBar, IsTidyPrice, IsTidyRow, IsTidySplit, IsTidyStart}
-use Rattle.plan_text.specs.Tidy.{IsTidyWorker}
+use Rattle.plan_text.specs.Tidy.{IsAtMost, IsTidyPlaces, IsTidyWorker}
 use Rattle.line_rules.proofs.OfKeyword.{keyword_of}
 use Rattle.plan_text.proofs.Named.{row_named}
 
@@ -67,6 +68,16 @@ tidy_start rows words row =
     let whole : 2 ≤ length words = row.whole in
     row_named Worker refl rows (get_or words 1 []) (row.known 1 (omega arith))
 
+tidy_place_prices : (rows : List Statement) (words : List Word) → IsTidyRow rows (line Places words)
+    → IsTidyPlaces (line Places words)
+tidy_place_prices rows [] row = absurd (let whole : 2 ≤ length {A = Word} [] = row.whole in omega arith)
+tidy_place_prices rows (a ∷ ws) row = record {
+  is_places = refl;
+  whole = omega arith;
+  each = λ i d lt. place_price rows a ws row i d lt;
+  rising = row.rising;
+}
+
 tidy_price : (rows : List Statement) (words : List Word) → IsTidyRow rows (line Price words)
     → IsTidyPrice (line Price words)
 tidy_price rows words row = grind arith
@@ -88,6 +99,9 @@ module _ (rows : List Statement) (tidy : AreTidy rows) where
   pub tidy_prices : All IsTidyPrice (rows_of Price rows)
   tidy_prices = each_of_keyword Price IsTidyPrice rows tidy (tidy_price rows)
 
+  pub tidy_places : All IsTidyPlaces (rows_of Places rows)
+  tidy_places = each_of_keyword Places IsTidyPlaces rows tidy (tidy_place_prices rows)
+
   -- of the row with a number
   pub worker_at : (n : ℕ) → n < length (rows_of Worker rows)
       → IsTidyWorker (names_of Rack rows) (nth_row Worker n rows)
@@ -107,6 +121,9 @@ module _ (rows : List Statement) (tidy : AreTidy rows) where
 
   pub price_at : (n : ℕ) → n < length (rows_of Price rows) → IsTidyPrice (nth_row Price n rows)
   price_at n lt = tidy_prices n (line Price []) lt
+
+  pub places_at : (n : ℕ) → n < length (rows_of Places rows) → IsTidyPlaces (nth_row Places n rows)
+  places_at n lt = tidy_places n (line Places []) lt
 
   pub few_names : (k : Keyword) (n : ℕ) → length (rows_of k rows) ≤ n → length (names_of k rows) ≤ n
   few_names k n few = rw length-map few

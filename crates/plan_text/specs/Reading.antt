@@ -9,7 +9,7 @@ use Rattle.line_rules.specs.Texts.{ReadsAs}
 use Rattle.line_rules.specs.declared.purpose.Purpose.{Purpose}
 use Rattle.line_rules.specs.declared.purpose.Purpose.TheVariants.{Checking, Planning}
 use Rattle.plan_text.specs.Names.{names_of, rows_in}
-use Rattle.plan_text.specs.Value.{MakesWave, prices_in, declared_starts}
+use Rattle.plan_text.specs.Value.{MakesWave, declared_places, declared_starts, prices_in}
 use Rattle.plan_text.specs.declared.built.PlanText.{PlanText}
 use Rattle.plan_text.specs.declared.built.ProblemText.{ProblemText}
 
@@ -24,6 +24,7 @@ pub record MakesPlan (rows : List Statement) (v : PlanText) : Type 0 where
   pub wave : MakesWave rows v.problem
   pub starts : v.plan.starts ≡ declared_starts rows
   pub prices : v.prices ≡ prices_in rows
+  pub places : v.places ≡ declared_places rows
   pub splits : v.splits ≡ names_of Split rows
   pub workers : v.workers ≡ names_of Worker rows
 

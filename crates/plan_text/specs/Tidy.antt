@@ -1,6 +1,8 @@
 -- What the rows of a text without a fault keep to.
-use Rattle.std.specs.Prelude.{ℕ, List, ◌≡◌, ◌≢◌, ◌≤◌, length}
+use Rattle.std.specs.Prelude.{ℕ, List, ◌≡◌, ◌≢◌, ◌≤◌, drop, length}
 use Rattle.std.specs.List.{All, AllPairs, Contains}
+use Rattle.std.specs.List.Sorted.{IsNonDecreasingBy}
+use Rattle.price_certificate.specs.declared.TheConstants.{MAX_PLACE_PRICE}
 use Rattle.text_lines.specs.Texts.{IsNumber, Word, number_of}
 use Rattle.line_shapes.specs.Demands.{Meet}
 use Rattle.line_shapes.specs.Lines.{HasTailApart, IsInRange, Statement, tail_words}
@@ -8,7 +10,7 @@ use Rattle.line_shapes.specs.Places.{places_of}
 use Rattle.line_shapes.specs.declared.demand.Demand.TheVariants.{LongName}
 use Rattle.line_shapes.specs.declared.keyword.Keyword.TheVariants as keyword
 use Rattle.line_rules.specs.Entering.{most_more_of}
-use Rattle.line_rules.specs.Faults.{IsFew, Keep}
+use Rattle.line_rules.specs.Faults.{AreRising, IsFew, Keep}
 use Rattle.line_rules.specs.Known.{keys_of, rows_of}
 use Rattle.line_rules.specs.declared.edition.Version.TheVariants.{Three}
 use Rattle.line_rules.specs.declared.rule.Rule.TheVariants as rule
@@ -20,6 +22,7 @@ pub record IsTidyRow (rows : List Statement) (s : Statement) : Type 0 where
   pub named : Meet LongName s.keyword s.words
   pub known : Keep rule.Declared rows s
   pub in_range : IsInRange s
+  pub rising : AreRising s.keyword s.words
   pub few : IsFew (most_more_of Three s.keyword) (length (tail_words s))
   pub tail_apart : HasTailApart s
 
@@ -58,6 +61,13 @@ pub record IsTidyBar (splits workers : List Word) (s : Statement) : Type 0 where
 
 abbrev pub IsTidyStart : List Word → Statement → Type 0
 IsTidyStart workers s = Contains workers (nth_word 1 s)
+
+-- the prices of places, which are numbers
+pub record IsTidyPlaces (s : Statement) : Type 0 where
+  pub is_places : s.keyword ≡ keyword.Places
+  pub whole : 1 ≤ length s.words
+  pub each : All (λ w. IsAtMost w MAX_PLACE_PRICE) (drop 1 s.words)
+  pub rising : IsNonDecreasingBy number_of (drop 1 s.words)
 
 abbrev pub IsTidyPrice : Statement → Type 0
 IsTidyPrice s = IsAtMost (nth_word 1 s) 18446744073709551615

@@ -1,5 +1,5 @@
 -- The value that the lines of a problem and a plan declare, over whole lists and by names.
-use Rattle.std.specs.Prelude.{ℕ, List, [], ◌≡◌, ◌↔◌, Bool, not, Option, length, map, max}
+use Rattle.std.specs.Prelude.{ℕ, List, [], ◌∷◌, ◌≡◌, ◌↔◌, Bool, not, Option, drop, length, map, max}
 use Rattle.std.specs.Prelude.{slice_index_or, unwrap_or}
 use Rattle.std.specs.List.{Contains, list_any, position}
 use Rattle.std.specs.Option.{option_map}
@@ -13,7 +13,7 @@ use Rattle.price_certificate.specs.PriceList.{PriceList}
 use Rattle.text_lines.specs.Texts.{Word, number_of}
 use Rattle.line_shapes.specs.Lines.{Statement, tail_words}
 use Rattle.line_shapes.specs.declared.keyword.Keyword.TheVariants.{Centre, Rack, Worker, Split, Barred, Dead}
-use Rattle.line_shapes.specs.declared.keyword.Keyword.TheVariants.{Busy, Start, Price}
+use Rattle.line_shapes.specs.declared.keyword.Keyword.TheVariants.{Busy, Places, Start, Price}
 use Rattle.line_rules.specs.Known.{rows_of}
 use Rattle.plan_text.specs.Names.{names_in, names_of, rows_in, nth_word}
 
@@ -65,6 +65,13 @@ start_at workers lines name =
 abbrev pub price_at : List Statement → Word → ℕ
 price_at lines name = unwrap_or (beside 0 (names_in lines) (map (λ s. number_of (nth_word 1 s)) lines) name) 0
 
+-- `places WORKER PRICE ..`: the prices of the places of a worker, none where none of these lines says them
+abbrev pub places_told : Statement → List ℕ
+places_told s = map number_of (drop 1 s.words)
+
+abbrev pub places_at : List Statement → Word → List ℕ
+places_at lines name = unwrap_or (beside [] (names_in lines) (map places_told lines) name) []
+
 -- ---- all lines
 
 -- `rack NAME CENTRE`, among these centres; where the text has none, its racks stand in one without a name
@@ -102,9 +109,20 @@ prices_in rows = record {
 abbrev pub DeclaresWave : List Statement → Wave → Type 0
 DeclaresWave ss wave = MakesWave (rows_in ss) wave
 
--- the starts and prices of a plan to check
+-- the prices of places of each worker by these lines, of none where there is no line
+abbrev pub places_by : List Statement → List Word → List (List ℕ)
+places_by [] workers = []
+places_by (line ∷ lines) workers = map (places_at (line ∷ lines)) workers
+
+abbrev pub declared_places : List Statement → List (List ℕ)
+declared_places rows = places_by (rows_of Places rows) (names_of Worker rows)
+
+-- the starts and prices of a plan to check, and its prices of places
 abbrev pub starts : List Statement → List (Option ℕ)
 starts ss = declared_starts (rows_in ss)
 
 abbrev pub prices : List Statement → PriceList
 prices ss = prices_in (rows_in ss)
+
+abbrev pub places : List Statement → List (List ℕ)
+places ss = declared_places (rows_in ss)

@@ -13,21 +13,23 @@ ghost use Rattle.plan_text.specs.Value.{declared_starts, declared_tree, declared
 ghost use Rattle.plan_text.specs.Value.{prices_in, rack_number, start_at};
 
 use crate::name_list::NameList;
+use crate::place_rows::build_places;
 use crate::tidy_rows::TidyRows;
 use line_shapes::Keyword;
 use node_ids::{CentreNo, PairSet, RackNo, SplitNo, WorkerNo};
-use price_certificate::Prices;
+use price_certificate::{PlacePrices, Prices};
 use rack_tree::RackTree;
 use std::alloc::{AllocError, Global};
 use text_lines::NameTable;
 use wave_problem::{Plan, Problem, ProblemError, SplitLine, WorkerLine};
 
-/// A problem, a plan and prices of one size, and the names of their splits and workers.
+/// A problem, a plan and prices of one size, prices of places, and the names of the splits and workers.
 #[derive(Drop)]
 pub struct PlanText<'t> {
     pub problem: Problem,
     pub plan: Plan,
     pub prices: Prices,
+    pub places: PlacePrices,
     pub splits: NameTable<'t>,
     pub workers: NameTable<'t>,
 }
@@ -50,6 +52,7 @@ pub fn build_plan_text<'t>(
 {
     let plan = build_plan(alloc, rows)?;
     let prices = build_prices(alloc, rows)?;
+    let places = build_places(alloc, rows)?;
     let problem = build_problem(alloc, rows)?;
     let splits = rows.names(alloc, Keyword::Split)?;
     let workers = rows.names(alloc, Keyword::Worker)?;
@@ -57,6 +60,7 @@ pub fn build_plan_text<'t>(
         problem,
         plan,
         prices,
+        places,
         splits,
         workers,
     })

@@ -11,6 +11,7 @@
 pub mod built;
 pub mod check_report;
 pub mod name_list;
+pub mod place_rows;
 pub mod plan_report;
 pub mod reader;
 pub mod tidy_rows;
