@@ -23,6 +23,7 @@ start_words rows ws row = has_words rows Add ws refl (record {
   named = row.named;
   known = row.known;
   in_range = row.in_range;
+  rising = tt;
   few = row.few;
   tail_apart = row.tail_apart;
 })

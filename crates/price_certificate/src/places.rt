@@ -43,6 +43,13 @@ impl PlacePrices {
         }
     }
 
+    /// Whether all places are free because none has a price.
+    pub fn is_free(&self) -> bool
+        ensures { IsTrue result ↔ (self.now ≡ []) }
+    {
+        self.rows.is_empty()
+    }
+
     /// These prices, of each worker by rising number; None where there are more workers than a cluster has, or
     /// where a price is too great or lower than the one before. It takes no memory.
     pub fn from_rows(rows: Vec<Vec<u64>>) -> Option<PlacePrices>

@@ -12,7 +12,7 @@ use Rattle.line_shapes.specs.declared.keyword.Keyword.{Keyword}
 use Rattle.line_shapes.specs.declared.keyword.Keyword.TheVariants as keyword
 use Rattle.line_rules.specs.Entering.{command_of, entered_of, entering_of, follow_of, in_turn, most_commands}
 use Rattle.line_rules.specs.Entering.{most_of}
-use Rattle.line_rules.specs.Faults.{AreAsMany, IsFewer, IsFit, counted_by, follows}
+use Rattle.line_rules.specs.Faults.{IsFewer, IsFit, MayFollow, counted_by}
 use Rattle.line_rules.specs.Known.{Known, entered, rows_of}
 use Rattle.line_rules.specs.Reading.{AreFitLines, IsAllRead}
 use Rattle.line_rules.specs.declared.entering.Entering.{Entering}
@@ -62,7 +62,7 @@ pub one_for_each : (k : Known) (s : Statement) → IsFit k s → follow_of s.key
     → length s.words ≡ workers_in k
 one_for_each k s fit is =
     let whole : length (tail_words s) ≡ workers_in k =
-    subst (λ (f : Follow). AreAsMany (follows f k) (length (tail_words s))) is fit.whole in
+    subst (λ (f : Follow). MayFollow f k (length (tail_words s))) is fit.whole in
     omega (arith, whole, length-drop (length (places_of s.keyword)) s.words, no_places s.keyword is)
 
 workers_grow : (k : Known) (ss : List Statement) → workers_in k ≤ workers_in (names_after k ss)

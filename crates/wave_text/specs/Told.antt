@@ -1,5 +1,5 @@
 -- What the text of a wave says.
-use Rattle.std.specs.Prelude.{ℕ, ◌≡◌, ◌<◌, ◌↔◌, List, Option, length}
+use Rattle.std.specs.Prelude.{ℕ, ◌≡◌, ◌<◌, ◌↔◌, List, [], Option, length}
 use Rattle.node_ids.specs.Sets.{HasPair}
 use Rattle.wave_problem.specs.Wave.{Wave}
 use Rattle.price_certificate.specs.PriceList.{PriceList}
@@ -14,7 +14,7 @@ pub record IsSameWave (a b : Wave) : Type 0 where
   pub barred : (s w : ℕ) → s < length b.splits → w < length b.workers
       → HasPair a.barred s w ↔ HasPair b.barred s w
 
--- the text has no fault, and declares this wave, these starts and these prices
+-- the text has no fault, and declares this wave, these starts and these prices, and no place has a price
 pub record TellsWave (text : List ℕ) (wave : Wave) (told_starts : List (Option ℕ))
     (told_prices : PriceList) : Type 0 where
   pub read : PlanText
@@ -22,3 +22,4 @@ pub record TellsWave (text : List ℕ) (wave : Wave) (told_starts : List (Option
   pub same : IsSameWave read.problem wave
   pub starts : read.plan.starts ≡ told_starts
   pub prices : read.prices ≡ told_prices
+  pub free_places : read.places ≡ []

@@ -1,4 +1,4 @@
-ghost use Rattle.std.specs.Prelude.{◌≡◌, ◌≤◌, IfOk, IfSome, IsTrue, length, string_bytes};
+ghost use Rattle.std.specs.Prelude.{◌≡◌, ◌≤◌, [], IfOk, IfSome, IsTrue, length, string_bytes};
 ghost use Rattle.rack_tree.specs.declared.TheConstants.{MAX_WORKERS};
 ghost use Rattle.wave_problem.specs.declared.TheConstants.{MAX_SPLITS};
 ghost use Rattle.wave_text.specs.Told.{IsSameWave, TellsWave};
@@ -52,7 +52,7 @@ fn written(
     Ok(text)
 }
 
-// Whether the text has no fault, and declares this wave, these starts and these prices.
+// Whether the text has no fault, and declares this wave, these starts and these prices, and no prices of places.
 fn reads_back(
     alloc: Global,
     text: &[u8],
@@ -78,8 +78,10 @@ fn is_told(read: &PlanText<'_>, problem: &Problem, plan: &Plan, prices: &Prices)
     ensures wave { IsTrue result → IsSameWave read.now.problem problem.now }
     ensures starts { IsTrue result → read.now.plan.starts ≡ plan.now.starts }
     ensures prices { IsTrue result → read.now.prices ≡ prices.now }
+    ensures places { IsTrue result → read.now.places ≡ [] }
 {
     is_same_wave(&read.problem, problem)
         && are_same_starts(plan, &read.plan)
         && are_same_prices(prices, &read.prices)
+        && read.places.is_free()
 }

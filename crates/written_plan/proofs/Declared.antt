@@ -15,7 +15,7 @@ use Rattle.line_shapes.specs.Places.{place_at, places_of}
 use Rattle.line_shapes.specs.declared.place.Place.TheVariants.{New}
 use Rattle.line_shapes.specs.declared.keyword.Keyword.{Keyword}
 use Rattle.line_shapes.specs.declared.keyword.Keyword.TheVariants.{Centre, Rack, Worker, Split, Barred, Dead}
-use Rattle.line_shapes.specs.declared.keyword.Keyword.TheVariants.{Busy}
+use Rattle.line_shapes.specs.declared.keyword.Keyword.TheVariants.{Busy, Places}
 use Rattle.line_rules.specs.Entered.{AreSound, IsSound}
 use Rattle.line_rules.specs.Entering.{entering_of}
 use Rattle.line_rules.specs.Known.{is_of, keys_of, rows_of}
@@ -25,7 +25,7 @@ use Rattle.line_rules.specs.declared.entering.Entering.TheVariants.{Word as ByWo
 use Rattle.plan_text.specs.Names.{names_in, names_of, nth_word}
 use Rattle.plan_text.specs.Tidy.{AreTidy, IsTidyRow}
 use Rattle.plan_text.specs.Value.{MakesWave, price_at, prices_in, start_at}
-use Rattle.plan_text.specs.Value.{declared_starts}
+use Rattle.plan_text.specs.Value.{declared_places, declared_starts, places_by}
 use Rattle.line_rules.proofs.OfKeyword.{keyword_of}
 use Rattle.plan_text.proofs.Named.{named_row, names_differ}
 use Rattle.written_plan.proofs.Heads.{AreApart, IsBare}
@@ -118,6 +118,13 @@ starts-back rows starts b c bare names count of_workers =
     (new-none [] splits refl names.splits_differ) of_workers
 
 -- ---- the prices
+
+-- no line is of places
+pub places-free : (rows : List Statement) (a : List (Word × Word)) (b c : List (Word × ℕ)) → IsBare rows
+    → declared_places (rows ++ plan_rows a b c) ≡ []
+places-free rows a b c bare =
+    ap (λ (lines : List Statement). places_by lines (names_of Worker (rows ++ plan_rows a b c)))
+    (rows-other Places rows a b c (λ p ss. refl) (λ p ss. refl) ∙ bare.no_places)
 
 split_prices-back : (splits workers : List Word) (ps qs : List ℕ) → AreNames splits workers
     → length ps ≡ length splits

@@ -182,6 +182,7 @@ fit-start k splits workers started priced p begun names h =
       in_range = record {
         places = both_of (λ i w. MeetsDemand Range (place_at Start i) w) p.0 p.1 tt tt;
         size = tt;
+        rising = tt;
       };
       within_limit = record { room = tt; few = tt };
       tail_apart = tt;
@@ -263,6 +264,7 @@ fit-price k splits workers started priced p begun names h =
         places = both_of (λ i w. MeetsDemand Range (place_at Price i) w) p.0 (decimal p.1) tt
             (number-decimal p.1 h.amount, omega arith, small);
         size = tt;
+        rising = tt;
       };
       within_limit = record { room = tt; few = tt };
       tail_apart = tt;

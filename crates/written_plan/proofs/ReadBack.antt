@@ -19,10 +19,10 @@ use Rattle.line_rules.specs.Entered.{AreSound}
 use Rattle.plan_text.specs.Names.{names_in, names_of, rows_in}
 use Rattle.plan_text.specs.Report.{lines_of_plan}
 use Rattle.plan_text.specs.Tidy.{AreTidy}
-use Rattle.plan_text.specs.Value.{MakesWave, prices_in, declared_starts}
+use Rattle.plan_text.specs.Value.{MakesWave, declared_places, declared_starts, prices_in}
 use Rattle.plan_text.proofs.Tidy.{tidy-rows}
 use Rattle.written_plan.specs.Joined.{IsWritable, ReadsBack, WrittenPlanReadsBack, with_plan}
-use Rattle.written_plan.proofs.Declared.{head_names, head_spelled, prices-read_back, same_wave}
+use Rattle.written_plan.proofs.Declared.{head_names, head_spelled, places-free, prices-read_back, same_wave}
 use Rattle.written_plan.proofs.Declared.{starts-back}
 use Rattle.written_plan.proofs.Entered.{HasNames}
 use Rattle.written_plan.proofs.FitText.{fit-append, reads_fit}
@@ -121,6 +121,7 @@ joined-reads_back text ss wave starts prices lines h makes plan short =
           ap declared_starts whole ∙ starts-back rows starts b c bare names plan.split_starts plan.of_workers;
       same_prices = ap prices_in whole ∙ prices-read_back rows a prices bare names plan.split_prices
           plan.worker_prices plan.split_amounts plan.worker_amounts;
+      free_places = ap declared_places whole ∙ places-free rows a b c bare;
     }
 
 pub written_plan_reads_back : WrittenPlanReadsBack

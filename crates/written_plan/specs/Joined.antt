@@ -39,7 +39,7 @@ pub record IsWritable (splits workers : List Word) (starts : List (Option ℕ))
   pub split_amounts : All (λ amount. amount < 2 ^ 64) prices.splits
   pub worker_amounts : All (λ amount. amount < 2 ^ 64) prices.workers
 
--- the text to check has no fault, and declares the wave, the starts and the prices
+-- the text to check has no fault, and declares the wave, the starts and the prices, and no place has a price
 pub record ReadsBack (text : List ℕ) (wave : Wave) (starts : List (Option ℕ))
     (prices : PriceList) : Type 0 where
   pub statements : List Statement
@@ -47,6 +47,7 @@ pub record ReadsBack (text : List ℕ) (wave : Wave) (starts : List (Option ℕ)
   pub declared : DeclaresWave statements wave
   pub same_starts : value.starts statements ≡ starts
   pub same_prices : value.prices statements ≡ prices
+  pub free_places : value.places statements ≡ []
 
 -- a plan written for a text's problem, joined to that text's head, reads back as itself, if the whole is not
 -- too long
