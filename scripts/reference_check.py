@@ -28,7 +28,20 @@ class Wave:
         self.split_price = [given.prices[name] for name in self.splits]
         self.worker_price = [given.prices[name] for name in self.workers]
         reach = 6 if len(given.numbers["centre"]) > 1 else 4
-        self.reward = 1 + reach * sum(self.bytes)
+        self.places = [given.places.get(name, []) for name in self.workers] if given.places else None
+        every_place = sum(self.place_price(w, k) for w, free in enumerate(self.free) for k in range(free))
+        self.reward = 1 + reach * sum(self.bytes) + every_place
+
+    def place_price(self, worker, place):
+        """What the place of the worker costs, the first being 0: past the last price as much as that."""
+        prices = self.places[worker] if self.places else []
+        return prices[min(place, len(prices) - 1)] if prices else 0
+
+    def fits_places(self, worker):
+        """Whether the worker's price lies from that of its last place taken to that of its first place left."""
+        load, price = self.load(worker), self.worker_price[worker]
+        taken = load == 0 or self.place_price(worker, load - 1) <= price
+        return taken and (load >= self.free[worker] or price <= self.place_price(worker, load))
 
     def distance(self, a, b):
         """The steps from each up to the closest of worker, rack, centre and root that both are below."""
@@ -74,7 +87,7 @@ def first_failure(wave):
         lambda: at_pair(5, (it for it in pairs if wave.is_admissible(*it) and wave.priced(*it) < wave.reward)),
         lambda: at_pair(6, (pair for pair in started if wave.priced(*pair) != wave.reward)),
         lambda: at_split(7, (s for s in splits if wave.starts[s] is None and wave.split_price[s] != 0)),
-        lambda: at_worker(8, (w for w in workers if wave.load(w) < wave.free[w] and wave.worker_price[w] != 0)),
+        lambda: at_worker(8, (w for w in workers if not wave.fits_places(w))),
     )
     for failing in conditions:
         found = failing()
@@ -94,7 +107,10 @@ def answer(text):
         number, *names = failure
         return f"refused C{number} {b' '.join(names).decode()}\n".encode(), 1
     started = [(s, w) for s, w in enumerate(wave.starts) if w is not None]
-    return f"certified {len(started)} {sum(wave.cost(*pair) for pair in started)}\n".encode(), 0
+    numbers = [len(started), sum(wave.cost(*pair) for pair in started)]
+    if wave.places:
+        numbers.append(sum(wave.place_price(w, k) for w in range(len(wave.workers)) for k in range(wave.load(w))))
+    return f"certified {' '.join(map(str, numbers))}\n".encode(), 0
 
 
 def most_and_least(wave):

@@ -40,6 +40,7 @@ SHAPES = {
     b"barred": "nn",
     b"dead": "n",
     b"busy": "n",
+    b"places": "n+",
     b"parts": "9",
     b"target": "9",
     b"silence": "9",
@@ -65,7 +66,7 @@ SHAPES = {
 }
 ANY_HEAD = (b"centre", b"rack", b"worker", b"split")
 HEAD = {
-    "check": (*ANY_HEAD, b"barred", b"dead", b"busy", b"plan"),
+    "check": (*ANY_HEAD, b"barred", b"dead", b"busy", b"places", b"plan"),
     "plan": (*ANY_HEAD, b"barred", b"dead", b"busy", b"end"),
     "play": (*ANY_HEAD, b"parts", b"target", b"silence", b"doc", b"begin"),
     "run": (*ANY_HEAD, b"parts", b"target", b"silence", b"doc", b"end"),
@@ -76,7 +77,7 @@ COMMANDS = (
 )
 BODY = {"check": (b"start", b"price", b"end"), "play": (*COMMANDS, b"end")}
 # From which version on a line may stand, where not from the first.
-SINCE = {b"centre": 2, b"backup": 2, b"ahead": 3}
+SINCE = {b"centre": 2, b"backup": 2, b"ahead": 3, b"places": 3}
 SETTINGS = (b"parts", b"target", b"silence")
 # The least and the greatest number of a line.
 RANGES = {
@@ -85,6 +86,7 @@ RANGES = {
     b"job": (1, 3),
     b"worker": (0, 255),
     b"price": (0, 2**64 - 1),
+    b"places": (0, 2**36),
     b"parts": (1, 64),
     b"target": (1, 8),
     b"silence": (1, 1000),
@@ -103,6 +105,7 @@ USES = {
     b"barred": ("split", "worker"),
     b"dead": ("worker",),
     b"busy": ("split",),
+    b"places": ("worker",),
     b"doc": ("split",),
     b"start": ("split", "worker"),
     b"die": ("worker",),
@@ -129,6 +132,7 @@ class Given:
         self.centre_of, self.rack_of = [], []
         self.slots, self.bytes, self.holders = [], [], []
         self.barred, self.dead, self.busy = set(), set(), set()
+        self.places = {}
         self.settings = {}
         self.documents = []
         self.starts, self.prices = {}, {}
@@ -180,6 +184,8 @@ def spelled(given, line):
         shape = shape[:-1] + "n" * (len(words) - len(shape) + 1)
     if shape == "+":
         shape = "9" * len(given.numbers["worker"])
+    if shape == "n+":
+        shape = "n" + "9" * min(max(len(words) - 1, 1), MOST_SLOTS[3])
     if len(words) != len(shape):
         return None
     if any(place == "9" and not NUMBER.fullmatch(word) for place, word in zip(shape, words)):
@@ -234,6 +240,11 @@ def faults(given, keyword, words, shape):
     declared = {b"barred": given.barred, b"dead": given.dead, b"busy": given.busy}
     if tuple(names) in declared.get(keyword, ()) or keyword in given.settings:
         found.add(4)
+    if keyword == b"places":
+        if names[0] in given.places:
+            found.add(4)
+        if numbers != sorted(numbers):
+            found.add(5)
     if keyword in RANGES:
         least, greatest = RANGES[keyword]
         if not all(least <= number <= greatest for number in numbers):
@@ -275,6 +286,8 @@ def enter(given, keyword, words, text):
         given.holders.append([given.numbers["worker"][name] for name in words[2:]])
     elif keyword in (b"barred", b"dead", b"busy"):
         {b"barred": given.barred, b"dead": given.dead, b"busy": given.busy}[keyword].add(tuple(words))
+    elif keyword == b"places":
+        given.places[words[0]] = [int(word) for word in words[1:]]
     elif keyword in SETTINGS:
         given.settings[keyword] = int(words[0])
     elif keyword == b"doc":

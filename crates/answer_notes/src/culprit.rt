@@ -3,7 +3,7 @@ use crate::words::{LinesBefore, Word, Words, word_at};
 use line_shapes::demand::is_within;
 use line_shapes::{Keyword, Kind, Place};
 use std::alloc::{AllocError, Global};
-use text_lines::{Fault, NameTable, Number, TextFault, is_long_name, is_name, printable};
+use text_lines::{Fault, NameTable, Number, TextFault, is_long_name, is_name, printable, value_in};
 
 // How many words stand before the bytes of a split, and before the slots of a worker.
 const SPLIT_BYTES: usize = 2;
@@ -12,6 +12,9 @@ const WORKER_SLOTS: usize = 3;
 
 // A split line with its ninth holder has so many words before it.
 const NINTH_HOLDER: usize = 11;
+
+// A line of places with as many prices as a worker may have slots has so many words.
+const MOST_PLACES: usize = 257;
 
 // Where in its line a fault lies: a word, or the place after the last one.
 pub(crate) fn culprit(
@@ -94,8 +97,8 @@ fn first_unfit<'t>(fault: Fault, long: bool, line: &'t str) -> Option<Word<'t>> 
     None
 }
 
-// The number that is out of the range of its place, or else the bytes of a split or the slots of a worker,
-// which have a lower limit before version 3.
+// The number that is out of the range of its place, or else a price of a place that is lower than the one before
+// it, or the bytes of a split or the slots of a worker, which have a lower limit before version 3.
 fn out_of_range(line: &str) -> Option<Word<'_>> {
     match (
         first_unfit(Fault::OutOfRange, false, line),
@@ -103,8 +106,26 @@ fn out_of_range(line: &str) -> Option<Word<'_>> {
     ) {
         (Some(word), _) => Some(word),
         (None, Some(Keyword::Worker)) => word_at(line, WORKER_SLOTS),
+        (None, Some(Keyword::Places)) => first_lower(line),
         (None, _) => word_at(line, SPLIT_BYTES),
     }
+}
+
+// The first number after the worker of a line of places that is lower than the one before it.
+fn first_lower(line: &str) -> Option<Word<'_>> {
+    let mut words = Words::of(line);
+    words.next_word();
+    words.next_word();
+    let mut before = 0;
+    for _ in 0..line.len() {
+        let word = words.next_word()?;
+        let number = value_in(word.text)?;
+        if number < before {
+            return Some(word);
+        }
+        before = number;
+    }
+    None
 }
 
 fn is_unfit(fault: Fault, long: bool, place: Option<Place>, word: &str) -> bool {
@@ -137,6 +158,7 @@ fn most_words(text: &[u8], number: u32, keyword: Keyword) -> usize {
         Keyword::Rack if has_centres(text) => 3,
         Keyword::Rack => 2,
         Keyword::Ahead | Keyword::Sweep => count_workers(text, number).saturating_add(1),
+        Keyword::Places => MOST_PLACES,
         _ => usize::MAX,
     }
 }

@@ -35,12 +35,12 @@ const ENTRIES: [Entry; 44] = [
     Entry {
         kind: "fault",
         name: "4",
-        sentence: "a name, a setting, a barred pair, a dead worker or a busy split is declared twice",
+        sentence: "a name, a setting, a barred pair, a dead worker, a busy split or a worker's places are declared twice",
     },
     Entry {
         kind: "fault",
         name: "5",
-        sentence: "a number is out of its range",
+        sentence: "a number is out of its range, or a price of a place lower than the one before it",
     },
     Entry {
         kind: "fault",
@@ -125,7 +125,7 @@ const ENTRIES: [Entry; 44] = [
     Entry {
         kind: "condition",
         name: "C8",
-        sentence: "a worker with fewer starts than free slots has the price 0",
+        sentence: "a worker's price is at least that of its last place taken, and at most that of its first place left (0 if free)",
     },
     Entry {
         kind: "ignored",

@@ -24,11 +24,13 @@ price_place zero past = absurd (omega (arith, past))
 price_place (suc zero) past = refl
 price_place (suc (suc i)) past = past_places Places (suc (suc i)) (omega arith)
 
-pub is_price : (words : List (Bor (List ℕ))) → IsInRange (stated Places words) → (i : ℕ) → 1 ≤ i
+pub is_price : (w : Word) (i : ℕ) → 1 ≤ i → IsWithinIn (place_at Places i) w → IsNumberWithin 0 68719476736 w
+is_price w i past within = subst (λ place. IsWithinIn place w) (price_place i past) within
+
+pub price_there : (words : List (Bor (List ℕ))) → IsInRange (stated Places words) → (i : ℕ) → 1 ≤ i
     → i < length words → IsNumberWithin 0 68719476736 (get_or words i nothing).now
-is_price words within i past lt =
-    subst (λ place. IsWithinIn place (get_or words i nothing).now) (price_place i past)
-    (meet_in Range Places words within i nothing lt)
+price_there words within i past lt =
+    is_price (get_or words i nothing).now i past (meet_in Range Places words within i nothing lt)
 
 -- ---- the prices among all words
 

@@ -13,6 +13,8 @@ use Rattle.plan_text.specs.Names.{names_of}
 use Rattle.plan_text.specs.Tidy.{AreTidy, IsTidyBar, IsTidyPrice, IsTidyRow, IsTidySplit, IsTidyStart}
 use Rattle.plan_text.specs.Tidy.{IsAtMost, IsTidyPlaces, IsTidyWorker}
 use Rattle.line_rules.proofs.OfKeyword.{keyword_of}
+use Rattle.line_rules.proofs.Rises.{is_price}
+use Rattle.price_certificate.specs.declared.TheConstants.{MAX_PLACE_PRICE}
 use Rattle.plan_text.proofs.Named.{row_named}
 
 -- the line of this keyword and these words
@@ -74,7 +76,10 @@ tidy_place_prices rows [] row = absurd (let whole : 2 ≤ length {A = Word} [] =
 tidy_place_prices rows (a ∷ ws) row = record {
   is_places = refl;
   whole = omega arith;
-  each = λ i d lt. place_price rows a ws row i d lt;
+  each = λ i d lt.
+      let price = is_price (get_or ws i []) (suc i) (omega arith) (row.in_range (suc i) (omega (arith, lt))) in
+      subst (λ (w : Word). IsAtMost w MAX_PLACE_PRICE) (get_or_default ws i [] d lt)
+      (record { number = price.0; most = price.2 });
   rising = row.rising;
 }
 

@@ -13,6 +13,16 @@ use Rattle.text_lines.specs.Texts.{Word, name_of, numbers_of}
 abbrev pub certified_line : ℕ → ℕ → List ℕ
 certified_line count cost = codes "certified " ++ decimal count ++ codes " " ++ decimal cost ++ 10 ∷ []
 
+-- and what the places taken cost together
+abbrev pub charged_line : ℕ → ℕ → ℕ → List ℕ
+charged_line count cost taken =
+    codes "certified " ++ decimal count ++ codes " " ++ decimal cost ++ codes " " ++ decimal taken ++ 10 ∷ []
+
+-- which is told where places have prices
+abbrev pub certified_by : List (List ℕ) → ℕ → ℕ → ℕ → List ℕ
+certified_by [] count cost taken = certified_line count cost
+certified_by places count cost taken = charged_line count cost taken
+
 -- a condition that fails at a split or a worker
 abbrev pub refused_at : ℕ → Word → List ℕ
 refused_at condition name = codes "refused C" ++ decimal condition ++ codes " " ++ name ++ 10 ∷ []

@@ -1,15 +1,44 @@
 ghost use Rattle.std.specs.Prelude.{◌≡◌, IfOk, string_bytes};
-ghost use Rattle.plan_text.specs.Report.{certified_line, refused_at, refused_at_pair, refused_line};
+ghost use Rattle.plan_text.specs.Report.{certified_by, certified_line, charged_line, refused_at};
+ghost use Rattle.plan_text.specs.Report.{refused_at_pair, refused_line};
 
-use price_certificate::Condition;
+use price_certificate::{Condition, PlacePrices};
 use std::alloc::{AllocError, Global};
 use text_lines::NameTable;
 
-/// The answer to a plan that is best: how many splits it starts, and their byte-distance.
-pub fn certified(alloc: Global, count: usize, cost: u64) -> Result<String, AllocError>
+/// The answer to a plan that is best: how many splits it starts, their byte-distance, and where places have prices,
+/// what those that it takes cost.
+pub fn certified(
+    alloc: Global,
+    places: &PlacePrices,
+    count: usize,
+    cost: u64,
+    taken: u64,
+) -> Result<String, AllocError>
+    ensures { IfOk result (λ line. string_bytes line ≡ certified_by places.now count cost taken) }
+{
+    if places.is_free() {
+        certified_free(alloc, count, cost)
+    } else {
+        certified_charged(alloc, count, cost, taken)
+    }
+}
+
+fn certified_free(alloc: Global, count: usize, cost: u64) -> Result<String, AllocError>
     ensures { IfOk result (λ line. string_bytes line ≡ certified_line count cost) }
 {
     format!(in alloc; "certified {count} {cost}\n")
+}
+
+fn certified_charged(
+    alloc: Global,
+    count: usize,
+    cost: u64,
+    taken: u64,
+) -> Result<String, AllocError>
+    ensures { IfOk result (λ line. string_bytes line ≡ charged_line count cost taken) }
+{
+    format!(in alloc; "certified {count} {cost} {taken}\n")
 }
 
 /// The answer to a plan that its prices do not certify: the first condition that fails, at its place.

@@ -119,6 +119,102 @@ fn texts_to_check(rt: HostRuntime) {
     }
 }
 
+// What stands after the head of a text to check of version 3, whose first line is the sixth.
+const PLACES: [(&str, Option<(u32, u8)>); 17] = [
+    ("places a 0\nplan\nprice s 0\nprice a 0\nend\n", None),
+    (
+        "places a 0 7 7 68719476736\nplan\nprice s 0\nprice a 0\nend\n",
+        None,
+    ),
+    ("places\n", Some((6, 1))),
+    ("places a\n", Some((6, 1))),
+    ("places a 01\n", Some((6, 1))),
+    ("places a 1 x\n", Some((6, 1))),
+    ("places a! 1\n", Some((6, 2))),
+    ("places b 2 1\n", Some((6, 3))),
+    ("places s 1\n", Some((6, 3))),
+    ("places a 1\nplaces a 1\n", Some((7, 4))),
+    ("places a 1\nplaces a 2 1\n", Some((7, 4))),
+    ("places a 68719476737\n", Some((6, 5))),
+    ("places a 1 0\n", Some((6, 5))),
+    ("places a 0 2 1\n", Some((6, 5))),
+    ("places a 0 3 1 2\n", Some((6, 5))),
+    ("plan\nplaces a 1\n", Some((7, 7))),
+    ("places a 1\nend\n", Some((7, 7))),
+];
+
+const THIRD: &str = "problem 3\ncentre c\nrack r c\nworker a r 2\nsplit s 1 a\n";
+
+#[test]
+fn prices_of_places(rt: HostRuntime) {
+    for (after, fault) in PLACES {
+        let text = format!(in rt.alloc(); "{THIRD}{after}").expect(&rt, "no text");
+        assert_eq!(rt;
+            fault_of(rt.alloc(), Purpose::Checking, &text),
+            fault,
+            "{after}"
+        );
+    }
+}
+
+#[test]
+fn places_stand_in_texts_to_check_of_version_3_alone(rt: HostRuntime) {
+    for (purpose, head) in [
+        (
+            Purpose::Checking,
+            "problem 2\ncentre c\nrack r c\nworker a r 2\n",
+        ),
+        (
+            Purpose::Planning,
+            "problem 3\ncentre c\nrack r c\nworker a r 2\n",
+        ),
+        (
+            Purpose::Playing,
+            "script 3\ncentre c\nrack r c\nworker a r 2\n",
+        ),
+        (
+            Purpose::Running,
+            "job 3\ncentre c\nrack r c\nworker a r 2\n",
+        ),
+    ] {
+        let text = format!(in rt.alloc(); "{head}places a 1\n").expect(&rt, "no text");
+        assert_eq!(rt;
+            fault_of(rt.alloc(), purpose, &text),
+            Some((5, 7)),
+            "{text}"
+        );
+    }
+}
+
+// The fault of a line of places with so many prices.
+fn fault_of_prices(alloc: Global, prices: u32, last: &str) -> Option<(u32, u8)> {
+    let mut text = String::from_str(alloc, THIRD).ok()?;
+    text.push_str("places a").ok()?;
+    for _ in 0..prices {
+        text.push_str(" 1").ok()?;
+    }
+    text.push_str(last).ok()?;
+    text.push_str("\n").ok()?;
+    fault_of(alloc, Purpose::Checking, &text)
+}
+
+#[test]
+fn no_more_prices_than_a_worker_has_slots(rt: HostRuntime) {
+    for (prices, last, fault) in [
+        (255, "", (7, 7)),
+        (254, " 0", (6, 5)),
+        (256, "", (6, 1)),
+        (255, " 0", (6, 1)),
+        (300, " 68719476737", (6, 1)),
+    ] {
+        assert_eq!(rt;
+            fault_of_prices(rt.alloc(), prices, last),
+            Some(fault),
+            "{prices}{last}"
+        );
+    }
+}
+
 // Seventeen workers, and the first eight, nine, sixteen and seventeen of them as holders.
 const WORKERS: &str =
     "worker a r 0\nworker b r 0\nworker c r 0\nworker d r 0\nworker e r 0\nworker f r 0\n\

@@ -1,15 +1,17 @@
 ghost use Rattle.std.specs.Prelude.{◌≡◌, ◌≢◌, ⊤, Err, IfOk, Ok, OnErr, OnOk, string_bytes};
 ghost use Rattle.std.specs.Thread.{IsSync};
-ghost use Rattle.wave_problem.specs.Assignment.{IsBest, pairs_of};
-ghost use Rattle.price_certificate.specs.Certificate.{HasOneSize, claim};
-ghost use Rattle.certificate_checker.specs.Verdict.{IsVerdict, MayComparePairs};
+ghost use Rattle.wave_problem.specs.Assignment.{pairs_of};
+ghost use Rattle.price_certificate.specs.Certificate.{HasOneSize, IsFirstFailure, claim};
+ghost use Rattle.certificate_checker.specs.Verdict.{IfFailed, IsCertified, IsVerdict, MayComparePairs};
 ghost use Rattle.command_runner.specs.CommandRun.{HasRun, NoText, WroteItsAnswer};
-ghost use Rattle.tools.specs.CheckAnswer.{CheckAnswer, Judges};
+ghost use Rattle.tools.specs.CheckAnswer.{CheckAnswer, IsBestWith, Judges, claim_of};
 ghost use Rattle.tools.specs.OneAnswer.{one_check_answer};
 ghost use Rattle.tools.specs.declared.program_end.CheckEnd.{CheckEnd};
 
 use crate::program_end::CheckEnd;
-use certificate_checker::{Certified, CheckError, certify, certify_on};
+use certificate_checker::{
+    Certified, CheckError, certify, certify_on, certify_places, certify_places_on,
+};
 use command_runner::{Command, NoAnswer, ToolError, run_command};
 use line_rules::fault_answer;
 use plan_text::check_report::{certified, refused};
@@ -65,12 +67,53 @@ pub trait Certifier {
         requires ready { ready self.now }
         requires sized { HasOneSize (claim read.now.problem read.now.plan.starts read.now.prices)
             read.now.plan.workers }
-        ensures verdict { IfOk result
-            (IsVerdict (claim read.now.problem read.now.plan.starts read.now.prices)) }
-        ensures best { IfOk result (λ verdict.
-            OnOk verdict (IsBest read.now.problem (pairs_of read.now.plan.starts))) }
-        ensures memory { OnErr result
-            (MayComparePairs (claim read.now.problem read.now.plan.starts read.now.prices)) };
+        ensures verdict { IfOk result (IsVerdict (claim_of read.now)) }
+        ensures best { IfOk result (λ verdict. OnOk verdict
+            (IsBestWith read.now.places read.now.problem (pairs_of read.now.plan.starts))) }
+        ensures memory { OnErr result (MayComparePairs (claim_of read.now)) };
+}
+
+// The verdict on what was read.
+fn verdict_on_one(alloc: Global, read: &PlanText<'_>) -> Result<Certified, Condition>
+    requires { HasOneSize (claim read.now.problem read.now.plan.starts read.now.prices)
+        read.now.plan.workers }
+    ensures verdict { IsVerdict (claim_of read.now) result }
+    ensures best { OnOk result
+        (IsBestWith read.now.places read.now.problem (pairs_of read.now.plan.starts)) }
+{
+    if read.places.is_free() {
+        certify(alloc, &read.problem, &read.plan, &read.prices)
+    } else {
+        certify_places(alloc, &read.problem, &read.places, &read.plan, &read.prices)
+    }
+}
+
+// The same on many threads.
+fn verdict_on_many(
+    rt: &(impl Threads + Sync),
+    alloc: Global,
+    read: &PlanText<'_>,
+) -> Result<Certified, CheckError>
+    requires { HasOneSize (claim read.now.problem read.now.plan.starts read.now.prices)
+        read.now.plan.workers }
+    ensures certified { IfOk result (IsCertified (claim_of read.now)) }
+    ensures best { OnOk result
+        (IsBestWith read.now.places read.now.problem (pairs_of read.now.plan.starts)) }
+    ensures failed { IfFailed result (IsFirstFailure (claim_of read.now)) }
+    ensures memory { result ≡ Err CheckError.Memory → MayComparePairs (claim_of read.now) }
+{
+    if read.places.is_free() {
+        certify_on(rt, alloc, &read.problem, &read.plan, &read.prices)
+    } else {
+        certify_places_on(
+            rt,
+            alloc,
+            &read.problem,
+            &read.places,
+            &read.plan,
+            &read.prices,
+        )
+    }
 }
 
 /// A verdict that is found on this thread.
@@ -83,7 +126,7 @@ impl Certifier for OneThread {
         alloc: Global,
         read: &PlanText<'_>,
     ) -> Result<Result<Certified, Condition>, AllocError> {
-        Ok(certify(alloc, &read.problem, &read.plan, &read.prices))
+        Ok(verdict_on_one(alloc, read))
     }
 }
 
@@ -99,7 +142,7 @@ impl<'a, T: Threads + Sync> Certifier for ManyThreads<'a, T> {
         alloc: Global,
         read: &PlanText<'_>,
     ) -> Result<Result<Certified, Condition>, AllocError> {
-        match certify_on(self.0, alloc, &read.problem, &read.plan, &read.prices) {
+        match verdict_on_many(self.0, alloc, read) {
             Ok(certified) => Ok(Ok(certified)),
             Err(CheckError::Failed(condition)) => Ok(Err(condition)),
             Err(CheckError::Memory) => Err(AllocError),
@@ -147,8 +190,7 @@ fn checked_answer<C: Certifier>(
     requires sized { HasOneSize (claim read.now.problem read.now.plan.starts read.now.prices)
         read.now.plan.workers }
     ensures answer { IfOk result (λ given. (end : CheckEnd) × (given.1 ≡ Ok end)
-        × Judges end (claim read.now.problem read.now.plan.starts read.now.prices)
-        read.now.splits read.now.workers (string_bytes given.0)) }
+        × Judges end (claim_of read.now) read.now.splits read.now.workers (string_bytes given.0)) }
     ensures never_full { result ≢ Err NoAnswer.HistoryFull }
 {
     let (line, end) = judged(certifier, alloc, read)?;
@@ -164,9 +206,8 @@ fn judged<C: Certifier>(
     requires ready { C.ready certifier.now }
     requires sized { HasOneSize (claim read.now.problem read.now.plan.starts read.now.prices)
         read.now.plan.workers }
-    ensures { IfOk result (λ given. Judges given.1
-        (claim read.now.problem read.now.plan.starts read.now.prices)
-        read.now.splits read.now.workers (string_bytes given.0)) }
+    ensures { IfOk result (λ given. Judges given.1 (claim_of read.now) read.now.splits read.now.workers
+        (string_bytes given.0)) }
 {
     let verdict = certifier.verdict(alloc, read)?;
     judge(alloc, read, verdict)
@@ -178,15 +219,21 @@ fn judge(
     read: &PlanText<'_>,
     verdict: Result<Certified, Condition>,
 ) -> Result<(String, CheckEnd), AllocError>
-    requires verdict { IsVerdict (claim read.now.problem read.now.plan.starts read.now.prices) verdict }
-    requires best { OnOk verdict (IsBest read.now.problem (pairs_of read.now.plan.starts)) }
-    ensures { IfOk result (λ given. Judges given.1
-        (claim read.now.problem read.now.plan.starts read.now.prices)
-        read.now.splits read.now.workers (string_bytes given.0)) }
+    requires verdict { IsVerdict (claim_of read.now) verdict }
+    requires best { OnOk verdict
+        (IsBestWith read.now.places read.now.problem (pairs_of read.now.plan.starts)) }
+    ensures { IfOk result (λ given. Judges given.1 (claim_of read.now) read.now.splits read.now.workers
+        (string_bytes given.0)) }
 {
     match verdict {
         Ok(answer) => Ok((
-            certified(alloc, answer.count, answer.cost)?,
+            certified(
+                alloc,
+                &read.places,
+                answer.count,
+                answer.cost,
+                answer.places,
+            )?,
             CheckEnd::Certified,
         )),
         Err(condition) => Ok((

@@ -1,15 +1,15 @@
 use Rattle.std.proofs.Common.{ℕ, List, ◌≤◌, ◌<◌, ◌-◌, arith, length, map, refl}
 use Rattle.std.proofs.lemmas.List.{length-map}
-use Rattle.line_rules.proofs.Rises.{AreRisingTo, all_rise, is_price, one_falls, rising_more, told_at}
+use Rattle.line_rules.proofs.Rises.{AreRisingTo, all_rise, one_falls, price_there, rising_more, told_at}
 use Rattle.line_rules.proofs.rising.do_not_fall.Goals as goal
 
 pub price_of-requires : goal.price_of-requires
 price_of-requires c =
-    is_price c.args.words.now c.requires c.loop-i.i (omega (arith, c.loop-i.invariant.past)) c.loop-i-test.true
+    price_there c.args.words.now c.requires c.loop-i.i (omega (arith, c.loop-i.invariant.past)) c.loop-i-test.true
 
 pub price_of-requires-in-loop-i : goal.price_of-requires-in-loop-i
 price_of-requires-in-loop-i c =
-    is_price c.args.words.now c.requires (c.loop-i.i - 1) (omega (arith, c.loop-i.invariant.past))
+    price_there c.args.words.now c.requires (c.loop-i.i - 1) (omega (arith, c.loop-i.invariant.past))
     (omega (arith, c.loop-i-test.true))
 
 pub returns-then-price_of : goal.returns-then-price_of

@@ -3,22 +3,22 @@ use Rattle.std.proofs.lemmas.Grind.{common_steps}
 use Rattle.std.proofs.lemmas.Result.{IfOk-weaker}
 use Rattle.std.specs.declared.result.Result.{Result}
 use Rattle.text_lines.specs.declared.fault.TextFault.{TextFault}
-use Rattle.price_certificate.specs.Certificate.{claim}
 use Rattle.plan_text.specs.Reading.{IsReadingOf}
 use Rattle.plan_text.specs.declared.built.PlanText.{PlanText}
 use Rattle.line_rules.specs.declared.purpose.Purpose.TheVariants.{Checking}
 use Rattle.line_rules.proofs.LeastFault.{tells_least}
-use Rattle.tools.specs.CheckAnswer.{AnswersRead, CheckAnswer, Judges}
+use Rattle.tools.specs.CheckAnswer.{AnswersRead, CheckAnswer, Judges, claim_of}
 use Rattle.tools.specs.declared.program_end.CheckEnd.{CheckEnd}
 use Rattle.tools.proofs.checking.CheckerCommand.answer.Goals as goal
 
 judges_read : (text : List ℕ) (v : PlanText) (end : CheckEnd) (line : List ℕ) → IsReadingOf text v
-    → Judges end (claim v.problem v.plan.starts v.prices) v.splits v.workers line → AnswersRead text end line
+    → Judges end (claim_of v) v.splits v.workers line → AnswersRead text end line
 judges_read text v end line read judges =
     let splits_are = read.declares.splits in
     let workers_are = read.declares.workers in
     let starts_are = read.declares.starts in
     let prices_are = read.declares.prices in
+    let places_are = read.declares.places in
     grind (arith, common_steps)
 
 pub returns-in-Ok-clause-answers : goal.returns-in-Ok-clause-answers
