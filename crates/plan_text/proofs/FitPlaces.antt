@@ -14,7 +14,7 @@ use Rattle.line_shapes.specs.declared.keyword.Keyword.TheVariants.{Places, Worke
 use Rattle.line_rules.specs.Known.{rows_of}
 use Rattle.plan_text.specs.Names.{names_in, names_of}
 use Rattle.plan_text.specs.Tidy.{AreTidy, IsTidyPlaces}
-use Rattle.plan_text.specs.Value.{places_at, places_by, places_told}
+use Rattle.plan_text.specs.Value.{places_at, places_told}
 use Rattle.plan_text.proofs.Parts.{start_inside}
 use Rattle.plan_text.proofs.Words.{few_names, line, tidy_places}
 
@@ -57,12 +57,3 @@ rows_fit rows tidy =
       each = All-map IsFitRow (places_at lines) workers
           (λ i d lt. row_fit lines (tidy_places rows tidy) (get_or workers i d));
     }
-
-pub no_places : (lines : List Statement) (workers : List Word) → length lines ≡ 0 → places_by lines workers ≡ []
-no_places [] workers none = refl
-no_places (s ∷ ss) workers none = absurd (omega (arith, none))
-
-pub some_places : (lines : List Statement) (workers : List Word) → 0 < length lines
-    → places_by lines workers ≡ map (places_at lines) workers
-some_places [] workers some = absurd (omega (arith, some))
-some_places (s ∷ ss) workers some = refl

@@ -23,7 +23,8 @@ pub fn build_places(alloc: Global, rows: &TidyRows<'_, '_>) -> Result<PlacePrice
     if rows.count(Keyword::Places) == 0 {
         return Ok(PlacePrices::free(alloc));
     }
-    match PlacePrices::from_rows(build_rows(alloc, rows)?) {
+    let list = build_rows(alloc, rows)?;
+    match PlacePrices::from_rows(list) {
         Some(places) => Ok(places),
         None => unreachable!(),
     }
@@ -37,7 +38,8 @@ fn build_rows(alloc: Global, rows: &TidyRows<'_, '_>) -> Result<Vec<Vec<u64>>, A
     let count = rows.count(Keyword::Worker);
     let mut list = Vec::with_capacity(alloc, count)?;
     for worker in 0..count {
-        list.push(build_row(alloc, rows, rows.word(Keyword::Worker, worker, 0))?)?;
+        let row = build_row(alloc, rows, rows.word(Keyword::Worker, worker, 0))?;
+        list.push(row)?;
     }
     Ok(list)
 }

@@ -17,7 +17,7 @@ loop-worker-preserved c =
     omega (arith, c.loop-worker-test.true, c.count-count.ensures.value) in
     let far : i < length names = rw length-map inside in
     ap (map (λ row. row.items)) c.in_ok-push.ensures.items
-    ∙ map-append (λ row. row.items) c.loop-worker.list.items (c.in_ok-build_row.row ∷ [])
+    ∙ map-append (λ row. row.items) c.loop-worker.list.items (c.in_ok-row.row ∷ [])
     ∙ (λ j. c.loop-worker.invariant j
-    ++ (c.in_ok-build_row.ensures ∙ ap f (c.word.ensures ∙ sym (name_at Worker rows i [] inside))) j ∷ [])
+    ++ (c.in_ok-row.ensures ∙ ap f (c.word.ensures ∙ sym (name_at Worker rows i [] inside))) j ∷ [])
     ∙ sym (map_more f names i [] far)
