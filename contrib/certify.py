@@ -33,7 +33,9 @@ class Wave:
         self.load = Counter(w for _, w in self.started)
         self.price = [int(text.prices.get(name, 0)) for name in self.split_names]
         self.slot_price = [int(text.prices.get(name, 0)) for name in self.worker_names]
+        self.place_prices = [text.place_prices.get(name, [0]) for name in self.worker_names]
         self.reward = 1 + (6 if len(text.numbers["centre"]) > 1 else 4) * sum(text.bytes)
+        self.reward += sum(self.places_cost(w, text.free[w]) for w in self.workers)
 
     def distance(self, a, b):
         one, other = self.text.rack_of[a], self.text.rack_of[b]
@@ -43,6 +45,15 @@ class Wave:
 
     def cost(self, s, w):
         return self.text.bytes[s] * min(self.distance(h, w) for h in self.live_holders[s])
+
+    def place_price(self, w, place):
+        """The price of a worker's place, counted from 0. A place past the last price costs as much as it."""
+        return self.place_prices[w][min(place, len(self.place_prices[w]) - 1)]
+
+    def places_cost(self, w, places):
+        """What the first places of a worker cost together."""
+        prices = self.place_prices[w]
+        return sum(prices[:places]) + prices[-1] * max(0, places - len(prices))
 
     def sum(self, s, w):
         return self.price[s] + self.slot_price[w] + self.cost(s, w)
@@ -88,6 +99,13 @@ class Wave:
             if first is not None and self.may_start(first, w) and self.sum(first, w) < self.reward
         )
 
+    def is_misfit(self, w):
+        """Whether the worker's price is lower than the price of its last place taken, or higher than that of
+        its first place left."""
+        load, price = self.load[w], self.slot_price[w]
+        is_low = load > 0 and price < self.place_price(w, load - 1)
+        return is_low or (load < self.text.free[w] and price > self.place_price(w, load))
+
     def failures(self):
         """The demands that fail, in their order, each with its places by split and then by worker; C5 of one split."""
         free = self.text.free
@@ -99,7 +117,7 @@ class Wave:
         yield from (("C5", s, w) for s, w in self.underpriced())
         yield from (("C6", s, w) for s, w in self.started if self.sum(s, w) != self.reward)
         yield from (("C7", s, None) for s in self.splits if self.start[s] is None and self.price[s] != 0)
-        yield from (("C8", None, w) for w in self.workers if self.load[w] < free[w] and self.slot_price[w] != 0)
+        yield from (("C8", None, w) for w in self.workers if self.is_misfit(w))
 
 
 def answer(data):
@@ -112,7 +130,10 @@ def answer(data):
         places = [] if s is None else [wave.split_names[s]]
         places += [] if w is None else [wave.worker_names[w]]
         return " ".join(["refused", name, *places]), 1
-    return f"certified {len(wave.started)} {sum(wave.cost(s, w) for s, w in wave.started)}", 0
+    figures = [len(wave.started), sum(wave.cost(s, w) for s, w in wave.started)]
+    if wave.text.place_prices:
+        figures.append(sum(wave.places_cost(w, wave.load[w]) for w in wave.workers))
+    return " ".join(["certified", *map(str, figures)]), 0
 
 
 def main():

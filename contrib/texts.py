@@ -10,11 +10,15 @@ MOST = {"centre": 256, "rack": 4096, "worker": 32_768, "split": 131_072}
 # What is less in texts of an older version than 3.
 OLD_MOST, MOST_SLOTS, MOST_BYTES = {"centre": 8, "rack": 32, "worker": 256, "split": 1024}, 16, 67_108_864
 MOST_HOLDERS, OLD_MOST_HOLDERS = 16, 8
+MOST_PLACES = 255
 # The places of each line: `+KIND` declares a name, KIND uses one, LEAST-GREATEST is a number, and a `*` says any count.
 HEAD = {
     "centre": "+centre", "rack": "+rack", "worker": "+worker rack 0-255", "split": "+split 0-8589934592 worker*",
     "barred": "split worker", "dead": "worker", "busy": "split",
+    "places": "worker 0-68719476736 0-68719476736*",
 }
+# From which version on a line may stand, where not from the first.
+SINCE = {"centre": 2, "places": 3}
 END = {"end": ""}
 PLAN = {"start": "split worker", "price": "priced 0-18446744073709551615", **END}
 # Lines of scripts and jobs are known by their shape, and may stand nowhere here; nor may a second first line.
@@ -30,15 +34,22 @@ class Fault(Exception):
     """The least fault of the first faulty line."""
 
 
+def is_greater(number, other):
+    """Whether a number is greater than another one: both are digits of any length, without leading zeros."""
+    return (len(number), number) > (len(other), other)
+
+
 class Text:
     """What the lines so far declare; names of a kind are numbered as they come."""
 
-    def __init__(self, has_plan):
+    def __init__(self, has_plan, may_price_places):
         self.has_plan, self.lines, self.version = has_plan, 0, 1
         self.section = {*HEAD, "plan" if has_plan else "end"}
+        if not may_price_places:
+            self.section.remove("places")
         self.kinds, self.numbers = {}, {kind: {} for kind in MOST}
         self.centre_of, self.rack_of, self.free, self.bytes, self.holders = [], [], [], [], []
-        self.marks, self.starts, self.prices = set(), {}, {}
+        self.marks, self.starts, self.prices, self.place_prices = set(), {}, {}, {}
 
     def places(self, keyword):
         """The places of a line, or None where the first word is no keyword."""
@@ -64,7 +75,7 @@ class Text:
         if any("-" in place and not NUMBER.fullmatch(word) for place, word in zip(places, words)):
             return [1], words
         allowed = ["problem"] if self.lines == 0 else self.section
-        if keyword not in allowed or keyword == "centre" and self.version == 1:
+        if keyword not in allowed or self.version < SINCE.get(keyword, 1):
             return [7], words
         found = [fault for it in zip(places, words) for fault in self.word_faults(*it)]
         return found + self.again(keyword, words), words
@@ -85,11 +96,14 @@ class Text:
         """What a line says too often, or `end` leaves out."""
         found = [4] if (keyword, *words) in self.marks else []
         older = {"split": (1, MOST_BYTES), "worker": (2, MOST_SLOTS)}.get(keyword)
-        if older and self.version < 3 and int(words[older[0]]) > older[1]:
+        if older and self.version < 3 and is_greater(words[older[0]], str(older[1])):
             found.append(5)
         if keyword == "split":
             most = MOST_HOLDERS if self.version == 3 else OLD_MOST_HOLDERS
             found += [6] * (len(words) > 2 + most) + [8] * (len(set(words[2:])) < len(words[2:]))
+        if keyword == "places":
+            found += [4] * (words[0] in self.place_prices) + [6] * (len(words) > 1 + MOST_PLACES)
+            found += [5] * any(is_greater(*pair) for pair in zip(words[1:], words[2:]))
         if keyword in ("start", "price") and words[0] in (self.starts if keyword == "start" else self.prices):
             found.append(9)
         priced = len(self.numbers["split"]) + len(self.numbers["worker"])
@@ -113,6 +127,8 @@ class Text:
         elif keyword == "split":
             self.bytes.append(int(words[1]))
             self.holders.append([self.numbers["worker"][name] for name in words[2:]])
+        elif keyword == "places":
+            self.place_prices[words[0]] = [int(word) for word in words[1:]]
         elif keyword in ("start", "price"):
             (self.starts if keyword == "start" else self.prices)[words[0]] = words[1]
         elif keyword in ("plan", "end"):
@@ -121,13 +137,14 @@ class Text:
             self.marks.add((keyword, *words))
 
 
-def read(data, has_plan):
-    """What a problem's text declares, or its least fault."""
+def read(data, has_plan, may_price_places=None):
+    """What a problem's text declares, or its least fault. Unless something else is said, places may have
+    prices only where there is a plan."""
     is_long = data.startswith((b"problem 3\n", b"script 3\n", b"job 3\n"))
     if len(data) > (268_435_456 if is_long else 16_777_216):
         raise Fault("line 0: fault 11")
     *lines, rest = data.decode("latin-1").split("\n")
-    text = Text(has_plan)
+    text = Text(has_plan, has_plan if may_price_places is None else may_price_places)
     for number, line in enumerate(lines, 1):
         if re.search("[^ -~]", line):
             raise Fault(f"line {number}: fault 13")

@@ -6,6 +6,7 @@ by reference_text.py.
 
     reference_check.py < TEXT      writes the answer of a check; the status is the program's: 0, 1 or 2
 """
+import math
 import sys
 
 sys.dont_write_bytecode = True
@@ -114,8 +115,48 @@ def answer(text):
 
 
 def most_and_least(wave):
-    """The most splits that can start together, and the least cost of as many: by going over the workers' slots in
-    all ways that matter, split by split, with the free slots that are left as the state."""
+    """The most splits that can start together, and the least cost of as many."""
+    idle = sum(map(bool, wave.free))
+    # (so many ways there are at most to fill the slots, and to give so many splits to workers or to none)
+    states = min(math.prod(free + 1 for free in wave.free), math.comb(len(wave.splits) + idle, idle))
+    return by_all_ways(wave) if states <= 1024 else by_chains(wave)
+
+
+def by_chains(wave):
+    """The same by one start more at a time, at the end of the cheapest chain: a split that does not start takes the
+    place of another one, which takes the place of the next, up to a free slot. As many starts then cost the least."""
+    costs = [{it: wave.cost(split, it) for it in range(len(wave.free)) if wave.is_admissible(split, it)}
+             for split in range(len(wave.splits))]
+    at = {}
+    while True:
+        chains = {}  # of each worker the cheapest one by which it has a split more: the cost, and where splits start
+
+        def found(worker, cost, starts):
+            is_less = worker not in chains or cost < chains[worker][0]
+            if is_less:
+                chains[worker] = cost, starts
+            return is_less
+
+        for split in {*range(len(costs))} - {*at}:
+            for worker, cost in costs[split].items():
+                found(worker, cost, {split: worker})
+        grew = True
+        while grew:
+            grew = False
+            for split, old in at.items():
+                for worker, cost in costs[split].items() if old in chains else ():
+                    before, starts = chains[old]
+                    grew |= found(worker, before + cost - costs[split][old], {**starts, split: worker})
+        loads = [*at.values()]
+        ends = [chain for it, chain in chains.items() if loads.count(it) < wave.free[it]]
+        if not ends:
+            return len(at), sum(costs[split][worker] for split, worker in at.items())
+        at.update(min(ends, key=lambda it: it[0])[1])
+
+
+def by_all_ways(wave):
+    """The same by going over the workers' slots in all ways that matter, split by split, with the free slots that are
+    left as the state."""
     idle = [worker for worker, free in enumerate(wave.free) if free]
     found = {tuple(wave.free[worker] for worker in idle): (0, 0)}
     for split in range(len(wave.splits)):
