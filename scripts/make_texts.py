@@ -2,9 +2,9 @@
 """Makes texts for tests, the same ones for the same seed: problems, with plans and prices or without, scripts
 and jobs.
 
-    make_texts.py KIND SEED        writes one text; KIND is best, changed, faulty, problem, faulty_problem, script,
-                                   faulty_script, vast_script, joined_script, job, wide_job, scattered_job, faulty_job,
-                                   full or large
+    make_texts.py KIND SEED        writes one text; KIND is best, changed, faulty, placed, changed_placed,
+                                   faulty_placed, problem, faulty_problem, script, faulty_script, vast_script,
+                                   joined_script, job, wide_job, scattered_job, faulty_job, full or large
 """
 import random
 import re
@@ -21,7 +21,7 @@ MOST_OF_SCRIPTS_3 = {**MOST_OF_3, "document": 1_048_576, "command": 1_048_576}
 MOST_WORKERS_OF_JOBS_3 = 1024
 KEYWORDS = ["problem", "script", "job", "centre", "rack", "worker", "split", "barred", "dead", "busy", "plan", "start"]
 KEYWORDS += ["price", "end", "parts", "target", "silence", "doc", "begin", "wave", "done", "fail", "withdraw", "die"]
-KEYWORDS += ["join", "add", "lose", "sweep", "reduce", "copies", "backup", "ahead"]
+KEYWORDS += ["join", "add", "lose", "sweep", "reduce", "copies", "backup", "ahead", "places"]
 # What stands for a letter before a number in names of version 3.
 LONG = {"w": "10.0.0.1:", "r": "/hall/", "s": "1/blk_"}
 
@@ -88,6 +88,8 @@ class Scenario:
             self.holders = [held[:8] for held in self.holders]
         self.barred = [(i, j) for i in s for j in w if rnd.random() < 0.1]
         self.reward = 1 + (6 if self.centres > 1 else 4) * sum(self.bytes)
+        # (of a worker whose places have prices, these prices)
+        self.places = {}
         self.starts, self.split_price, self.worker_price = [None] * self.splits, [0] * self.splits, [0] * self.workers
 
     def cost(self, s, w):
@@ -103,23 +105,30 @@ class Scenario:
         one, other = self.rack_of[a], self.rack_of[b]
         return 2 if one == other else 4 if self.centre_of[one] == self.centre_of[other] else 6
 
+    def place_price(self, w, k):
+        """The price of a worker's place, counted from 0."""
+        prices = self.places.get(w, [0])
+        return prices[min(k, len(prices) - 1)]
+
     def plan(self):
         """Gives a best plan and prices that certify it: a column for each slot, and the rest for no start."""
         if not self.splits:
             return
-        slots = [w for w in range(self.workers) for _ in range(self.free[w])]
+        slots = [(w, self.place_price(w, k)) for w in range(self.workers) for k in range(self.free[w])]
         never = 10 * self.reward * (self.splits + 1)
         unstarted = [self.reward] * (self.splits + 1)
         costs = []
         for s in range(self.splits):
-            row = [self.cost(s, w) for w in slots]
-            costs.append([never if cost is None else cost for cost in row] + unstarted)
+            row = [(self.cost(s, w), price) for w, price in slots]
+            costs.append([never if cost is None else cost + price for cost, price in row] + unstarted)
         column_of, u, v = assign(costs)
         for s, column in enumerate(column_of):
-            self.starts[s] = slots[column] if column < len(slots) else None
+            self.starts[s] = slots[column][0] if column < len(slots) else None
             self.split_price[s] = self.reward - u[s]
-        for column, w in enumerate(slots):
-            self.worker_price[w] = -v[column]
+        # (all places that are taken have one sum of price and dual, and the places left no lower one)
+        sums = [(w, price - v[column]) for column, (w, price) in enumerate(slots)]
+        for w, least in sorted(sums, reverse=True):
+            self.worker_price[w] = least
 
     def change(self, rnd):
         """Changes a price or a start, most often by little."""
@@ -154,12 +163,46 @@ class Scenario:
         marks = [f"dead w{w}" for w in range(self.workers) if not self.live[w]]
         marks += [f"busy s{s}" for s in range(self.splits) if not self.pending[s]]
         marks += [f"barred s{s} w{w}" for s, w in self.barred]
+        marks += [" ".join([f"places w{w}", *map(str, prices)]) for w, prices in self.places.items()]
         rnd.shuffle(marks)
         prices = [f"price s{s} {self.split_price[s]}" for s in range(self.splits)]
         prices += [f"price w{w} {self.worker_price[w]}" for w in range(self.workers)]
         plan = [f"start s{s} w{w}" for s, w in enumerate(self.starts) if w is not None] + prices
         rnd.shuffle(plan)
         return [f"problem {self.version}", *racks, *workers, *splits, *marks, "plan", *plan, "end"]
+
+
+class Placed(Scenario):
+    """A problem of version 3 in which the places of most workers have prices."""
+
+    def __init__(self, rnd):
+        super().__init__(rnd)
+        while self.version < 3:
+            super().__init__(rnd)
+        most = rnd.choice([0, 3, 40, 2000, 2**30, 2**36])
+        for w in range(self.workers):
+            if rnd.random() < 0.8:
+                count = rnd.choice([1, 1, 2, 3, 5, max(self.free[w], 1), 255])
+                self.places[w] = sorted(rnd.choice([0, most, rnd.randint(0, most)]) for _ in range(count))
+        self.reward += sum(self.place_price(w, k) for w in range(self.workers) for k in range(self.free[w]))
+
+    def change_places(self, rnd):
+        """Changes one price of a place so that none falls, and most often the reward and the prices of
+        started splits with it."""
+        if not self.places:
+            return
+        w = rnd.choice([*self.places])
+        prices = self.places[w]
+        at = rnd.randrange(len(prices))
+        before = sum(self.place_price(w, k) for k in range(self.free[w]))
+        following = prices[at + 1] if at + 1 < len(prices) else 2**36
+        prices[at] = rnd.choice([following, prices[at - 1] if at else 0])
+        more = sum(self.place_price(w, k) for k in range(self.free[w])) - before
+        if rnd.random() < 0.8:
+            self.reward += more
+            for s, start in enumerate(self.starts):
+                if start is not None:
+                    self.split_price[s] = max(0, self.split_price[s] + more)
 
 
 def long_named(line):
@@ -189,6 +232,39 @@ def changed(rnd):
     for _ in range(rnd.randint(1, 3)):
         scenario.change(rnd)
     return text_of(scenario.lines(rnd))
+
+
+def placed(rnd):
+    """A text that is certified, with prices of places."""
+    scenario = Placed(rnd)
+    scenario.plan()
+    return text_of(scenario.lines(rnd))
+
+
+def changed_placed(rnd):
+    """A text without a fault, with prices of places, in which these, the plan or its prices were changed."""
+    scenario = Placed(rnd)
+    scenario.plan()
+    for _ in range(rnd.randint(1, 2)):
+        rnd.choice([scenario.change, scenario.change_places])(rnd)
+    return text_of(scenario.lines(rnd))
+
+
+def faulty_placed(rnd):
+    """A text with prices of places, most with one such line more, in which any line may be spoiled."""
+    scenario = Placed(rnd)
+    scenario.plan()
+    lines = scenario.lines(rnd)
+    more = ["w0 1 2", "w0 2 1", "w0 1 1 0 2", "w0 1 3 2", "w1 0 0 0", "w0", "", "s0 1", "r0 1", "x 1", "w9 1"]
+    more += ["w0 68719476736", "w0 68719476737", f"w0 {'9' * 20}", f"w0 1 {'9' * 5000}"]
+    more += [f"w0 {' '.join(['7'] * count)}" for count in (254, 255, 256, 257)]
+    more += ["w0 0 01", "w0 1 x", "w0 1 ", "w0 1 w1"]
+    if rnd.random() < 0.8:
+        place = rnd.choice([rnd.randint(1, len(lines)), lines.index("plan")])
+        lines.insert(place, f"places {rnd.choice(more)}")
+    if rnd.random() < 0.1:
+        lines[0] = rnd.choice(["problem 2", "script 3", "job 3"])
+    return spoiled(rnd, lines) if rnd.random() < 0.4 else text_of(lines)
 
 
 def spoiled_word(rnd, word):
@@ -512,6 +588,9 @@ KINDS = {
     "best": best,
     "changed": changed,
     "faulty": faulty,
+    "placed": placed,
+    "changed_placed": changed_placed,
+    "faulty_placed": faulty_placed,
     "problem": problem,
     "script": script,
     "faulty_script": faulty_script,
