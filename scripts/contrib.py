@@ -4,7 +4,7 @@
     contrib.py PROGRAM..
 
 The examples in each script's help run, and a script whose reader leaves ends quietly. certify.py answers what `check`
-answers: the examples, 500 made texts and those at the limits on counts. The starts of plans come to their cost. A least
+answers: the examples, 860 made texts and those at the limits on counts. The starts of plans come to their cost. A least
 flow over dimacs_of_problem.py's network, by a search of its own, starts and costs what `plan` says. The jobs and
 scripts of job_of_files.py have the index that is made here of the files, lie on workers as HDFS places blocks, and past
 a limit none is written. The pictures of the docs are what picture.py makes of the samples anew, whose answers are a
@@ -51,6 +51,7 @@ CONTRIB, EXAMPLES = ROOT / "contrib", ROOT / "examples"
 TALES = CONTRIB / "samples/tales"
 SCRIPTS = [it.name for it in sorted(CONTRIB.glob("*.py")) if it.read_text().startswith("#!")]
 CERTIFIED = {"best": 120, "changed": 200, "faulty": 180}
+CERTIFIED.update({"placed": 60, "changed_placed": 100, "faulty_placed": 200})
 
 
 def said(words, given=b""):
@@ -116,6 +117,7 @@ def left(count):
         "job_of_files.py": ([TALES], swap),
         "page_of_history.py": ([samples / "job.txt", samples / "job.out"], swap),
         "picture.py": ([swap, plan], swap),
+        "plan_places.py": ([], EXAMPLES / "plan_places.txt"),
         "problem_of_moosefs.py": (["--servers", samples / "moosefs_servers.txt"], samples / "moosefs.txt"),
         "problem_of_hdfs.py": (["--slots", samples / "slots.txt"], samples / "hdfs_3.txt"),
         "starts_of_plan.py": ([swap], plan),
