@@ -70,7 +70,7 @@ class Text:
             words, places = words[:2], places[:2]
         if places and places[-1].endswith("*"):
             places[-1:] = [places[-1][:-1]] * (len(words) - len(places) + 1)
-        if len(words) != len(places) or "" in words:
+        if len(words) != len(places) or "" in words or keyword == "places" and len(words) > 1 + MOST_PLACES:
             return [1], words
         if any("-" in place and not NUMBER.fullmatch(word) for place, word in zip(places, words)):
             return [1], words
@@ -102,7 +102,7 @@ class Text:
             most = MOST_HOLDERS if self.version == 3 else OLD_MOST_HOLDERS
             found += [6] * (len(words) > 2 + most) + [8] * (len(set(words[2:])) < len(words[2:]))
         if keyword == "places":
-            found += [4] * (words[0] in self.place_prices) + [6] * (len(words) > 1 + MOST_PLACES)
+            found += [4] * (words[0] in self.place_prices)
             found += [5] * any(is_greater(*pair) for pair in zip(words[1:], words[2:]))
         if keyword in ("start", "price") and words[0] in (self.starts if keyword == "start" else self.prices):
             found.append(9)
