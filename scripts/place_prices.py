@@ -92,7 +92,7 @@ class Small:
     def figures(self, plan):
         """The number of starts, their byte-distance, and what their places cost."""
         started = [(s, w) for s, w in enumerate(plan) if w is not None]
-        places = [self.wave.place_price(w, nth) for w in self.workers for nth in range(1, plan.count(w) + 1)]
+        places = [self.wave.place_price(w, k) for w in self.workers for k in range(plan.count(w))]
         return len(started), sum(self.wave.cost(*pair) for pair in started), sum(places)
 
     def order(self, plan):
@@ -112,8 +112,8 @@ class Small:
                 yield at(plan[s]), s, reward - self.wave.cost(s, plan[s])
         for w in self.workers:
             load = plan.count(w)
-            yield at(w), zero, place_price(w, load + 1) if load < self.wave.free[w] else reward
-            yield zero, at(w), -place_price(w, load) if load else 0
+            yield at(w), zero, place_price(w, load) if load < self.wave.free[w] else reward
+            yield zero, at(w), -place_price(w, load - 1) if load else 0
         for s, w in self.ways:
             yield s, at(w), self.wave.cost(s, w) - reward
 
