@@ -9,8 +9,8 @@ from roff import WIDEST, bare, entry, of_markdown, plain, title, verbatim
 
 SUMS = (
     "What check refuses a plan by, where K is 1 + 4 times the bytes of all splits, with several data centres 1 + 6 "
-    "times, and a sum is a split's price, a worker's price and the cost of the start together. The first that fails is "
-    "told."
+    "times, with the prices of the places of all slots added, and a sum is a split's price, a worker's price and the "
+    "cost of the start together. The first that fails is told."
 )
 SEE = "The definitions stand in share/doc/mrjob/docs/MODEL.md, and examples in share/doc/mrjob/examples."
 
