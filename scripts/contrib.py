@@ -161,6 +161,7 @@ def certified(count, program):
     groups["texts at the limits"] = [
         make_texts.limit(kind, over, version) for version in (2, 3) for kind in make_texts.MOST for over in (0, 1)
     ]
+    groups["texts of the greatest reward"] = [make_texts.dearest(over) for over in (0, 1)]
     groups["all examples"] = [path.read_bytes() for path in sorted(EXAMPLES.glob("*.txt"))]
     for name, texts in groups.items():
         with ThreadPoolExecutor() as pool:

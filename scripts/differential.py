@@ -74,6 +74,9 @@ def groups():
     ]
     yield "full", wrong_run, [(f"a job of {over} workers past the most", full_of_workers(over)) for over in (0, 1)]
     yield "full", wrong_index, [(f"a job of {over} splits past the most", full_of_splits(over)) for over in (0, 1)]
+    yield "dearest", wrong_check, [
+        (f"a price {over} past the greatest reward", make_texts.dearest(over)) for over in (0, 1)
+    ]
     for most, wrong, make in (
         (make_texts.MOST, wrong_check, make_texts.limit),
         (make_texts.MOST_OF_3, wrong_check, lambda kind, over: make_texts.limit(kind, over, 3)),

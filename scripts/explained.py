@@ -68,6 +68,7 @@ def cases():
 HEAD = ["problem 1", "rack r", "worker a r 1", "worker b r 1", "split s 10 a"]
 SCRIPT = ["script 1", *HEAD[1:]]
 SCRIPT_3 = ["script 3", "centre c", "rack r c", *HEAD[2:]]
+HEAD_3 = ["problem 3", *SCRIPT_3[1:]]
 WORKERS = [f"worker w{n} r 1" for n in range(9)]
 PRICES = ["price s 1", "price a 1", "price b 1"]
 # The command, the lines before the faulty one, that one, its fault, and the number of the word that is marked, from
@@ -107,6 +108,14 @@ MARKED = [
     ("plan", [], "script 1", 7, 0),
     ("plan", HEAD, "split t 1 a b a", 8, 5),
     ("play", [*SCRIPT, "begin"], "join a s s", 8, 3),
+    ("check", HEAD_3, "places a", 1, None),
+    ("check", HEAD_3, "places a" + 256 * " 1", 1, 257),
+    ("check", HEAD_3, "places s 1", 3, 1),
+    ("check", [*HEAD_3, "places a 1"], "places a 2", 4, 1),
+    ("check", HEAD_3, "places a 1 2 1", 5, 4),
+    ("check", HEAD_3, "places a 2 1 68719476737", 5, 4),
+    ("check", HEAD, "places a 1", 7, 0),
+    ("plan", HEAD_3, "places a 1", 7, 0),
     ("check", [*HEAD, "plan", "start s a"], "start s b", 9, 1),
     ("check", [*HEAD, "plan", *PRICES], "price a 1", 9, 1),
     ("check", [*HEAD, "plan", "price s 1"], "end", 10, 0),

@@ -546,6 +546,17 @@ def limit(kind, over, version=2):
     return text_of([*lines, "end"])
 
 
+def dearest(over):
+    """A text of the greatest reward: the most workers have the most slots, all places the greatest price. The
+    price of the last worker is the reward, or so much more."""
+    workers, most = range(MOST_OF_3["worker"]), 2**36
+    reward = 1 + 4 * 2**33 + len(workers) * 255 * most
+    lines = ["problem 3", "centre c0", "rack r0 c0", *(f"worker w{i} r0 255" for i in workers)]
+    lines += [*(f"places w{i} {most}" for i in workers), f"split s0 {2**33}", "plan", "price s0 0"]
+    lines += [f"price w{i} {most if i < len(workers) - 1 else reward + over}" for i in workers]
+    return text_of([*lines, "end"])
+
+
 def limit_of_scripts(kind, over, version=2):
     """A script with so many past the most of what a head declares, or past the most commands. In version 3
     documents have short names, so that a text has room for the most of them."""
