@@ -92,9 +92,17 @@ SCRIPT = head("script", ["a", "b"], ["s", "t"]) + "begin\n"
 WIDE_SCRIPT = head("script", WORKERS, SPLITS) + "begin\n"
 JOB = head("job", ["a"], ["s"])
 NEW_HEAD = ("centre z", "rack r z", "worker a r 1", "split s 1 a")
-NEW_SCRIPT, NEW_JOB = lines("script 3", *NEW_HEAD, "begin"), lines("job 3", *NEW_HEAD)
+NEW_PROBLEM, NEW_JOB = (lines(f"{kind} 3", *NEW_HEAD) for kind in ("problem", "job"))
+NEW_SCRIPT = lines("script 3", *NEW_HEAD, "begin")
 HOLDERS = [f"w{number}" for number in range(4096)]
 WIDER = lines("problem 3", "centre c", "rack r c", *(f"worker {it} r 1" for it in HOLDERS))
+
+
+def late_prices(size):
+    """A text of so many workers as there is room for with the most prices of places, and a line that has a fault."""
+    workers = range(min(size // 530, 32_768))
+    front = lines("problem 3", "centre c", "rack r c", *(f"worker w{number} r 1" for number in workers))
+    return late(front, lambda: (f"places w{number}{' 0' * 255}\n" for number in workers))(size)
 
 
 class Hostile:
@@ -128,6 +136,8 @@ ALL = [
     Hostile("a fault behind joins", "play", 1, late(WIDE_SCRIPT, commands(JOIN)), 4, 60),
     Hostile("a fault behind commands", "play", 1, late(SCRIPT, commands("done 1000000")), 8, 80),
     Hostile("a fault behind barred pairs", "plan", 1, late(WIDE, barred_pairs), 18, 125),
+    Hostile("one price of a place over and over", "check", 1, one_line(f"{NEW_PROBLEM}places a", ["1"]), 4, 4),
+    Hostile("a fault behind prices of places", "check", 1, late_prices, 160, 95),
     Hostile("a fault behind documents", "run", 1, late(JOB, documents), 13, 12),
     Hostile("a fault behind a million commands", "play", 1, late(NEW_SCRIPT, commands("done 1000000", MANY)), 60, 80),
     Hostile("a fault behind a million documents", "run", 1, late(NEW_JOB, short_documents), 120, 160),
