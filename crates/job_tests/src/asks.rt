@@ -1,24 +1,66 @@
 //! What a gate is asked, and what an observer is told, and when.
 use crate::gates::{SeesAnswers, StopsLate, Yields};
 use crate::jobs::{AMPLE, SplitRow, job_of};
-use crate::told::{Told, run_rows};
-use job_threads::{Observer, Progress, run_recorded};
+use job_threads::{Observer, Progress, Record, Unobserved, run_recorded};
+use master_core::Master;
+use master_state::Event;
+use node_ids::WorkerNo;
+use std::alloc::Global;
 use std::cell::Cell;
+use std::process::Abort;
+use std::rt::Clock;
+use std::sync::Wait;
 use std::sync::atomic::Ordering;
+use std::thread::Threads;
 
-// A worker that is stopped in its second map ends it, and calls, takes and beats no more, so that it dies.
-#[test]
-fn a_stopped_worker_begins_no_further_map(rt: HostRuntime) {
-    let rows: [SplitRow<'_>; 64] = [(5, &[0], "one"); 64];
-    let gate = StopsLate::new();
-    let told = run_rows(&rt, rt.alloc(), &[16], &rows, AMPLE, &gate);
+// How many ends of maps a master's history has.
+fn maps_told(master: &Master) -> u32 {
+    let history = master.history();
+    let mut told: u32 = 0;
+    for index in 0..history.len() {
+        if matches!(history.at(index), Event::MapDone(_) | Event::MapFailed(_)) {
+            told = told.saturating_add(1);
+        }
+    }
+    told
+}
+
+// A worker with slots for all splits, which it alone holds, is stopped in its second map. It ends that map,
+// and calls, takes and beats no more, so that it dies.
+fn begins_no_further_map<R: Threads + Wait + Clock + Abort + Sync>(
+    rt: &R,
+    alloc: Global,
+    slots: &[u8],
+    worker: u16,
+) {
+    let held = [worker];
+    let rows: [SplitRow<'_>; 64] = [(5, &held, "one"); 64];
+    let gate = StopsLate::new(WorkerNo::new(worker));
+    let job = job_of(rt, alloc, slots, &rows, 1, 50, AMPLE).expect(rt, "no job");
+    let ran = run_recorded(rt, alloc, job, &gate, &Unobserved);
+    let Record { master, index } = ran.ok().expect(rt, "no record");
     let begun = gate.seen.begun.load(Ordering::SeqCst);
     let answered = gate.seen.answered.load(Ordering::SeqCst);
-    assert!(rt; matches!(told, Told::Stuck(_)), "{told:?}");
+    let told = maps_told(&master);
+    assert!(rt; index.is_none());
     assert!(rt;
-        begun <= 2 && answered <= 1,
-        "{begun} maps were begun, {answered} told"
+        begun <= 2 && answered <= 1 && told <= 1,
+        "{begun} maps were begun, {answered} answered, {told} told"
     );
+}
+
+#[test]
+fn a_stopped_worker_begins_no_further_map(rt: HostRuntime) {
+    begins_no_further_map(&rt, rt.alloc(), &[16], 0);
+}
+
+#[test]
+fn a_stopped_worker_of_many_begins_no_further_map(rt: HostRuntime) {
+    for worker in [63, 64, 69] {
+        let mut slots = [0; 70];
+        slots[worker as usize] = 16;
+        begins_no_further_map(&rt, rt.alloc(), &slots, worker);
+    }
 }
 
 // After each map the gate waits until the calling thread has seen as many splits done as it was asked for.

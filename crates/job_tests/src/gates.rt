@@ -404,15 +404,17 @@ impl Gate for DiesFirst {
 #[derive(Drop)]
 pub struct StopsLate {
     pub seen: Seen,
+    pub worker: WorkerNo,
     // 0 at first, 1 when the stop is answered, 2 when it is done
     pub stop: AtomicU64,
 }
 
 impl StopsLate {
     /// Nothing was begun.
-    pub fn new() -> StopsLate {
+    pub fn new(worker: WorkerNo) -> StopsLate {
         StopsLate {
             seen: Seen::new(),
+            worker,
             stop: AtomicU64::new(0),
         }
     }
@@ -440,7 +442,7 @@ impl Gate for StopsLate {
         match self.stop.load(Ordering::SeqCst) {
             0 if self.seen.begun.load(Ordering::SeqCst) > 0 => {
                 self.stop.store(1, Ordering::SeqCst);
-                Turn::Stop(WorkerNo::new(0))
+                Turn::Stop(self.worker)
             }
             0 => self.seen.turn(idle, 0),
             _ => {

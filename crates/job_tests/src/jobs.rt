@@ -89,7 +89,7 @@ fn texts_of(rt: &impl Abort, alloc: Global, rows: &[SplitRow<'_>]) -> Option<Vec
     Some(texts)
 }
 
-/// A job of one rack of at most 32 workers with these slots.
+/// A job of one rack of at most 1,024 workers with these slots.
 pub fn job_of(
     rt: &impl Abort,
     alloc: Global,
@@ -99,7 +99,7 @@ pub fn job_of(
     silence: u32,
     limits: Limits,
 ) -> Option<Job>
-    ensures workers { IfSome result (λ job. length job.cluster.slots ≤ 32) }
+    ensures workers { IfSome result (λ job. length job.cluster.slots ≤ 1024) }
     ensures limits { IfSome result (λ job. AreAllowed job.limits) }
 {
     assert!(rt;
@@ -112,7 +112,7 @@ pub fn job_of(
     assert!(rt; lines.len() == rows.len());
     let eight = HolderLimit::Eight;
     let cluster = Cluster::new(alloc, tree, slots, lines, texts, parts, silence, eight).ok()?;
-    assert!(rt; cluster.slots().len() <= 32);
+    assert!(rt; cluster.slots().len() <= 1024);
     Some(Job {
         cluster,
         target: 3,

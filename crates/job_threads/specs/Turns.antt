@@ -1,5 +1,5 @@
 -- The turns of the calling thread.
-use Rattle.std.specs.Prelude.{ℕ, ◌+◌, ◌-◌, ◌*◌, ◌%◌, ◌^◌, ◌==◌, ◌&&◌, ◌||◌, nat_le, nat_lt, min, not, Bool}
+use Rattle.std.specs.Prelude.{ℕ, ◌+◌, ◌-◌, ◌%◌, ◌^◌, ◌==◌, ◌&&◌, ◌||◌, nat_le, nat_lt, min, not, Bool}
 use Rattle.std.specs.Prelude.{◌≡◌, true, false, List, Option, Some, None}
 use Rattle.std.specs.List.{list_all}
 use Rattle.std.specs.Prelude.{if◌then◌else◌}
@@ -70,7 +70,3 @@ nap_micros idle =
     if nat_lt idle 64 || not (idle % 64 == 0) then 0
     else if nat_lt idle 4096 then 50
     else 300
-
--- the bit of a worker that was stopped
-abbrev pub bit_of : ℕ → ℕ
-bit_of worker = if nat_lt worker 64 then 1 * 2 ^ worker % 2 ^ 64 else 0

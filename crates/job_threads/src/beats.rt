@@ -18,28 +18,38 @@ use word_map::Pace;
 // A worker beats once for so many words and comparisons of its map or merge.
 const STRIDE: u32 = 4096;
 
-// A seat at the board of the run.
+// A seat of a worker of the job, at the board of the run.
 #[derive(Drop)]
-struct Seated<L: Aim> {
+struct Seated<L: OfJob + Aim> {
     seat: Seat,
+    worker: WorkerNo,
     of: PhantomData<L>,
 }
 
-impl<L: Aim> Model for Seated<L> {
-    ghost use Rattle.std.specs.Prelude.{◌≡◌};
+impl<L: OfJob + Aim> Model for Seated<L> {
+    ghost use Rattle.std.specs.Prelude.{◌≡◌, ◌<◌, length};
     ghost use Rattle.beat_board.specs.Values.{SeatValue};
 
     ghost Value = { SeatValue };
 
     ghost view = { λ s. s.seat };
 
-    ghost invariant = { λ s. s.seat.board ≡ L.board.board };
+    ghost invariant = { λ s. (s.seat.board ≡ L.board.board) × (s.seat.worker ≡ s.worker)
+        × (s.worker < length L.setup.cluster.slots) };
 }
 
-impl<L: Aim> Seated<L> {
-    // One beat, unless the seat is worn.
+impl<L: OfJob + Aim> Seated<L> {
+    fn worker(&self) -> WorkerNo
+        ensures value { result ≡ self.now.worker }
+        ensures of_job { result < length L.setup.cluster.slots }
+    {
+        self.worker
+    }
+
+    // One beat, unless the seat is worn. The worker of the seat was seen to go on.
     fn beat(&mut self, board: &Board, _going: &GoingOn)
-        requires { board.now ≡ L.board }
+        requires board { board.now ≡ L.board }
+        requires going { _going.now.worker ≡ self.old.worker }
         ensures worker { self.new.worker ≡ self.old.worker }
         ensures beats { self.new.beats ≡ min (self.old.beats + 1) (2 ^ 40) }
     {
@@ -57,12 +67,12 @@ impl<L: Aim> Seated<L> {
 
 // The board, and a worker's seat at it.
 #[derive(Drop)]
-pub(crate) struct Pulse<'a, L: Aim> {
+pub(crate) struct Pulse<'a, L: OfJob + Aim> {
     board: &'a Board,
     seated: Seated<L>,
 }
 
-impl<'a, L: Aim> Model for Pulse<'a, L> {
+impl<'a, L: OfJob + Aim> Model for Pulse<'a, L> {
     ghost use Rattle.std.specs.Prelude.{◌≡◌};
     ghost use Rattle.beat_board.specs.Values.{SeatValue};
 
@@ -76,41 +86,39 @@ impl<'a, L: Aim> Model for Pulse<'a, L> {
 // The beats of a worker's thread, also while it maps and merges. They end where the run is over or the worker
 // is stopped.
 #[derive(Drop)]
-pub(crate) struct Beating<'a, 'b, L: Aim> {
+pub(crate) struct Beating<'a, 'b, L: OfJob + Aim> {
     board: &'a Board,
     // (a map tells its pace by a shared reference, while it compares words)
     seated: Cell<Option<Seated<L>>>,
     // how many steps are left until the next beat
     left: Cell<u32>,
     flags: &'b Flags,
-    worker: WorkerNo,
     ghost of_run: { board.now ≡ L.board },
+    ghost of_all: { length flags.now.workers.items ≡ length L.setup.cluster.slots },
 }
 
-impl<'a, 'b, L: Aim> Beating<'a, 'b, L> {
-    pub(crate) fn new(
-        pulse: Pulse<'a, L>,
-        flags: &'b Flags,
-        worker: WorkerNo,
-    ) -> Beating<'a, 'b, L> {
+impl<'a, 'b, L: OfJob + Aim> Beating<'a, 'b, L> {
+    pub(crate) fn new(pulse: Pulse<'a, L>, flags: &'b Flags) -> Beating<'a, 'b, L>
+        requires { length flags.now.workers.items ≡ length L.setup.cluster.slots }
+    {
         let Pulse { board, seated } = pulse;
         Beating {
             board,
             seated: Cell::new(Some(seated)),
             left: Cell::new(STRIDE),
             flags,
-            worker,
         }
     }
 
     // Beats once if the worker goes on, and gives a token that it does.
     pub(crate) fn beat(&self) -> Option<GoingOn> {
-        let going = self.flags.go_on(self.worker)?;
-        if let Some(mut seated) = self.seated.take() {
-            seated.beat(self.board, &going);
-            self.seated.set(Some(seated));
+        let mut seated = self.seated.take()?;
+        let going = self.flags.go_on(seated.worker());
+        if let Some(going) = &going {
+            seated.beat(self.board, going);
         }
-        Some(going)
+        self.seated.set(Some(seated));
+        going
     }
 
     // The seat, when the thread ends.
@@ -124,7 +132,7 @@ impl<'a, 'b, L: Aim> Beating<'a, 'b, L> {
     }
 }
 
-impl<L: Aim> Pace for Beating<'_, '_, L> {
+impl<L: OfJob + Aim> Pace for Beating<'_, '_, L> {
     fn goes_on(&self) {
         let left = self.left.get();
         if left > 0 {
@@ -199,6 +207,7 @@ impl<'a, L: OfJob + Aim> Watch<'a, L> {
         let seat = self.board.seat(&mut self.maker, worker).ok()?;
         let seated = Seated {
             seat,
+            worker,
             of: PhantomData,
         };
         Some(Pulse {

@@ -1,6 +1,6 @@
-ghost use Rattle.std.specs.Prelude.{◌≡◌, ◌<◌, ◌≤◌, IfErr, IfSome, bit_and};
+ghost use Rattle.std.specs.Prelude.{◌≡◌, ◌<◌, ◌≤◌, IfErr, IfOk, IfSome, false, length};
+ghost use Rattle.std.specs.List.{range_with_len};
 ghost use Rattle.hand_ledger.specs.Hands.{last_place};
-ghost use Rattle.job_threads.specs.Turns.{bit_of};
 ghost use Rattle.job_threads.specs.Steps.{IsStepError, judged, judged_go, judged_why};
 
 use crate::aim::Aim;
@@ -9,30 +9,84 @@ use crate::outcome::RunError;
 use master_state::{Answer, Why};
 use node_ids::WorkerNo;
 use shared_master::{Hand, OfJob, SharedMaster};
-use std::sync::atomic::{AtomicU64, Ordering};
+use std::alloc::{AllocError, Global};
+use std::marker::Model;
+use std::sync::atomic::{AtomicBool, Ordering};
 use std::sync::ledger::Ledger;
 
-// What ends threads: whether the run is over, and which workers were stopped, by the bits of a word.
+// Whether a worker was stopped.
 #[derive(Drop)]
-pub(crate) struct Flags {
-    over: AtomicU64,
-    stopped: AtomicU64,
+struct Flag {
+    worker: WorkerNo,
+    stopped: AtomicBool,
 }
 
-impl Flags {
-    pub(crate) fn new() -> Flags {
-        Flags {
-            over: AtomicU64::new(0),
-            stopped: AtomicU64::new(0),
+impl Model for Flag {
+    ghost use Rattle.std.specs.Prelude.{ℕ};
+
+    ghost Value = { ℕ };
+
+    ghost view = { λ f. f.worker };
+}
+
+impl Flag {
+    // The flag of a worker that was not stopped.
+    fn new(worker: WorkerNo) -> Flag
+        ensures { result ≡ worker }
+    {
+        Flag {
+            worker,
+            stopped: AtomicBool::new(false),
         }
     }
 
+    fn look(&self) -> Look
+        ensures { result.worker ≡ self.now }
+    {
+        Look {
+            worker: self.worker,
+            stopped: self.stopped.load(Ordering::SeqCst),
+        }
+    }
+}
+
+// What was seen of a worker's flag. `Flag::look` alone makes one.
+#[derive(Drop)]
+struct Look {
+    worker: WorkerNo,
+    stopped: bool,
+}
+
+// What ends threads: whether the run is over, and a flag for each worker, by their numbers.
+#[derive(Drop)]
+pub(crate) struct Flags {
+    over: AtomicBool,
+    workers: Vec<Flag>,
+    ghost numbers: { workers.items ≡ range_with_len 0 (length workers.items) },
+}
+
+impl Flags {
+    // The flags of a run that is not over, for so many workers.
+    pub(crate) fn new(alloc: Global, workers: usize) -> Result<Flags, AllocError>
+        requires { workers ≤ 1024 }
+        ensures { IfOk result (λ flags. length flags.workers.items ≡ workers) }
+    {
+        let mut flags = Vec::with_capacity(alloc, workers)?;
+        for worker in 0..workers {
+            flags.push_reserved(Flag::new(WorkerNo::new(worker as u16)));
+        }
+        Ok(Flags {
+            over: AtomicBool::new(false),
+            workers: flags,
+        })
+    }
+
     pub(crate) fn end(&self) {
-        self.over.store(1, Ordering::SeqCst);
+        self.over.store(true, Ordering::SeqCst);
     }
 
     pub(crate) fn is_over(&self) -> bool {
-        self.over.load(Ordering::SeqCst) != 0
+        self.over.load(Ordering::SeqCst)
     }
 
     // A token that the run was seen to be over, if it is.
@@ -43,33 +97,24 @@ impl Flags {
         None
     }
 
-    // Stops a worker. The calling thread alone does so.
+    // Stops a worker, if there is one of this number.
     pub(crate) fn stop(&self, worker: WorkerNo) {
-        let stopped = self.stopped.load(Ordering::SeqCst);
-        self.stopped
-            .store(stopped | bit_of(worker), Ordering::SeqCst);
+        if let Some(flag) = self.workers.get(worker.index()) {
+            flag.stopped.store(true, Ordering::SeqCst);
+        }
     }
 
     // A token that the worker was seen to go on, if it does.
     pub(crate) fn go_on(&self, worker: WorkerNo) -> Option<GoingOn>
+        requires { worker < length self.now.workers.items }
         ensures { IfSome result (λ going. going.worker ≡ worker) }
     {
-        let over = self.over.load(Ordering::SeqCst);
-        let stopped = self.stopped.load(Ordering::SeqCst);
-        if over != 0 || stopped & bit_of(worker) != 0 {
+        let over = self.is_over();
+        let look = self.workers[worker.index()].look();
+        if over || look.stopped {
             return None;
         }
-        Some(GoingOn::of(worker, over, stopped))
-    }
-}
-
-fn bit_of(worker: WorkerNo) -> u64
-    ensures { result ≡ bit_of worker }
-{
-    if worker.index() < 64 {
-        1 << worker.index()
-    } else {
-        0
+        Some(GoingOn { worker, over, look })
     }
 }
 
@@ -78,25 +123,11 @@ fn bit_of(worker: WorkerNo) -> u64
 #[derive(Drop)]
 pub(crate) struct GoingOn {
     worker: WorkerNo,
-    over: u64,
-    stopped: u64,
-    ghost goes_on: { over ≡ 0 },
-    ghost runs: { bit_and stopped (bit_of worker) ≡ 0 },
-}
-
-impl GoingOn {
-    // By these flags.
-    fn of(worker: WorkerNo, over: u64, stopped: u64) -> GoingOn
-        requires goes_on { over ≡ 0 }
-        requires runs { bit_and stopped (bit_of worker) ≡ 0 }
-        ensures { result.worker ≡ worker }
-    {
-        GoingOn {
-            worker,
-            over,
-            stopped,
-        }
-    }
+    over: bool,
+    look: Look,
+    ghost goes_on: { over ≡ false },
+    ghost own: { look.worker ≡ worker },
+    ghost runs: { look.stopped ≡ false },
 }
 
 // The run was seen to be over. `Flags::seen_over` alone makes one.
@@ -116,21 +147,28 @@ pub(crate) struct Common<'a, L: Ledger + OfJob + Aim, G: Gate> {
     ghost few: { parts ≤ 64 },
     ghost of_job: { parts ≡ L.setup.cluster.parts },
     ghost gate_of: { G.may_end ≡ L.may_end },
+    ghost all: { length flags.workers.items ≡ length L.setup.cluster.slots },
 }
 
 impl<'a, L: Ledger + OfJob + Aim, G: Gate> Common<'a, L, G> {
-    pub(crate) fn new(shared: &'a SharedMaster<L>, gate: &'a G, parts: usize) -> Common<'a, L, G>
+    pub(crate) fn new(
+        alloc: Global,
+        shared: &'a SharedMaster<L>,
+        gate: &'a G,
+        parts: usize,
+    ) -> Result<Common<'a, L, G>, AllocError>
         requires some { 0 < parts }
         requires few { parts ≤ 64 }
         requires of_job { parts ≡ L.setup.cluster.parts }
         requires gate { G.may_end ≡ L.may_end }
+        requires workers { length L.setup.cluster.slots ≤ 1024 }
     {
-        Common {
+        Ok(Common {
             shared,
             gate,
-            flags: Flags::new(),
+            flags: Flags::new(alloc, shared.sizes().workers)?,
             parts,
-        }
+        })
     }
 }
 

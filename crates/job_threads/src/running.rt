@@ -245,7 +245,9 @@ fn run_shared<
     requires gate { G.may_end ≡ L.may_end }
     ensures err { IfErr result (λ e. (e ≡ RunError.Memory) ⊎ (e ≡ RunError.Torn 0)) }
 {
-    let common = Common::new(shared, gate, parts);
+    let Ok(common) = Common::new(alloc, shared, gate, parts) else {
+        return Err(RunError::Memory);
+    };
     let Aims {
         texts,
         holdings,
@@ -382,7 +384,6 @@ fn make_workers<'a, L: Ledger + OfJob + Aim, R: Wait>(
     requires ways { ways.now ≡ L.lanes }
     requires passes { passes.items ≡ map first_pass L.lanes }
     requires few { length L.lanes ≤ 1024 }
-    ensures numbers { IfOk result (λ all. map (λ worker. worker.number) all.items ≡ upto (length L.lanes)) }
     ensures seats { IfOk result
         (λ all. map (λ worker. worker.pulse.worker) all.items ≡ upto (length L.lanes)) }
     ensures lanes { IfOk result (λ all. map (λ lane. lane.lane) caller.new.lanes.items
@@ -412,7 +413,6 @@ fn make_worker<'a, L: Ledger + OfJob + Aim, R: Wait>(
 ) -> Result<Worker<'a, L>, RunError>
     requires lane { slice_get L.lanes number ≡ Some way.now }
     requires pass { pass ≡ first_pass way.now }
-    ensures number { IfOk result (λ worker. worker.number ≡ number) }
     ensures seat { IfOk result (λ worker. worker.pulse.worker ≡ number) }
     ensures lane { IfOk result (λ worker. map (λ lane. lane.lane) caller.new.lanes.items
         ≡ map (λ lane. lane.lane) caller.old.lanes.items ++ worker.orders.lane ∷ []) }
@@ -423,7 +423,6 @@ fn make_worker<'a, L: Ledger + OfJob + Aim, R: Wait>(
         return Err(RunError::Memory);
     };
     Ok(Worker {
-        number,
         hand,
         orders,
         pulse,

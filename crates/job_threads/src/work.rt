@@ -22,7 +22,7 @@ use crate::outcome::RunError;
 use beat_board::Seat;
 use lane_queue::Order;
 use master_state::{Answer, Why};
-use node_ids::{AttemptNo, PartNo, WorkerNo};
+use node_ids::{AttemptNo, PartNo};
 use shared_master::{Hand, OfJob};
 use shuffle_reduce::{PartResult, are_of_part, merge_paced};
 use std::alloc::Global;
@@ -45,7 +45,6 @@ const CROWD: usize = 64;
 // What the thread of a worker is given.
 #[derive(Drop)]
 pub(crate) struct Worker<'a, L: Ledger + OfJob + Aim> {
-    pub(crate) number: WorkerNo,
     pub(crate) hand: Hand<L>,
     pub(crate) orders: LaneEnd<'a, L>,
     pub(crate) pulse: Pulse<'a, L>,
@@ -76,12 +75,11 @@ pub(crate) fn work<L: Ledger + OfJob + Aim, G: Gate, R: Wait + Clock>(
     ensures worked { HasWorked L.setup result.half result.hand }
 {
     let Worker {
-        number,
         mut hand,
         mut orders,
         pulse,
     } = worker;
-    let beating = Beating::new(pulse, &common.flags, number);
+    let beating = Beating::new(pulse, &common.flags);
     let mut end = Ok(());
     let mut empty = 0;
     for _ in rt.forever() {

@@ -11,7 +11,6 @@ loop-pass-init g c =
     let none = c.new-all.ensures.items in
     record {
       count = grind (arith, common_steps);
-      numbers = ap (map (λ w. w.number)) none ∙ sym upto_zero;
       seats = ap (map (λ w. w.pulse.worker)) none ∙ sym upto_zero;
       lanes = sym (append-nil _) ∙ ap (λ l. map (λ lane. lane.lane) c.args.caller.now.lanes.items ++ l)
           (sym (ap (map (λ w. w.orders.lane)) none));
@@ -27,8 +26,6 @@ loop-pass-preserved g c =
     let same : c.new-worker.result ≡ length c.loop-pass.yielded = grind (arith, common_steps) in
     record {
       count = grind (arith, common_steps);
-      numbers = numbered_more (λ w. w.number) _ _ _ _ _ pushed all.numbers made.number same
-          ∙ ap upto (grind (arith, common_steps));
       seats = numbered_more (λ w. w.pulse.worker) _ _ _ _ _ pushed all.seats made.seat same
           ∙ ap upto (grind (arith, common_steps));
       lanes = laned_more (λ lane. lane.lane) (λ w. w.orders.lane) _ _ _ _ _ _ pushed all.lanes made.lane;
