@@ -1,6 +1,6 @@
 -- Lists that are mapped twice, and the parts that the rows of a text without a fault make.
 use Rattle.std.proofs.Common.{ℕ, List, [], ◌≡◌, ◌≢◌, ◌<◌, ◌≤◌, ◌∙◌, Option, Some, None}
-use Rattle.std.proofs.Common.{IfSome, length, map, subst, sym, refl, arith}
+use Rattle.std.proofs.Common.{ap, IfSome, length, map, subst, sym, refl, arith}
 use Rattle.std.specs.List.{All, Contains, position, slice_index_or}
 use Rattle.std.specs.Option.{option_map}
 use Rattle.std.specs.Str.{bytes_eq}
@@ -8,15 +8,23 @@ use Rattle.std.proofs.lemmas.List.{get_or-map, length-map}
 use Rattle.std.proofs.lemmas.List.Elements.{All-map}
 use Rattle.std.proofs.lemmas.List.Quantifiers.{position-Some}
 use Rattle.line_shapes.specs.Lines.{Statement, tail_words}
-use Rattle.line_shapes.specs.declared.keyword.Keyword.TheVariants.{Dead, Busy, Split, Start, Worker}
+use Rattle.line_shapes.specs.declared.keyword.Keyword.TheVariants.{Centre, Dead, Busy, Rack, Split}
+use Rattle.line_shapes.specs.declared.keyword.Keyword.TheVariants.{Start, Worker}
 use Rattle.line_shapes.proofs.Mapped.{AllPairs-map}
 use Rattle.line_rules.specs.Known.{rows_of}
 use Rattle.text_lines.specs.Texts.{Word}
-use Rattle.wave_problem.specs.Wave.{AreHeldWell, AreSmall, IsHeldWell, IsSmall}
+use Rattle.rack_tree.proofs.Distances.{within_reach}
+use Rattle.rack_tree.specs.Tree.{Tree}
+use Rattle.rack_tree.specs.View.{IsWithinLimits}
+use Rattle.wave_problem.proofs.Made.{moved_held, moved_small, within}
+use Rattle.wave_problem.specs.Wave.{AreHeldWell, AreSmall, IsHeldWell, IsSmall, wave_from}
+use Rattle.wave_problem.specs.Wave.{IsWithinLimits as IsWaveWithin}
+use Rattle.wave_problem.specs.Wave as wave
+use Rattle.wave_problem.specs.declared.lines.WorkerLine.{WorkerLine}
 use Rattle.plan_text.specs.Names.{names_in, names_of, nth_word}
 use Rattle.plan_text.specs.Tidy.{AreTidy, IsTidySplit, IsTidyStart}
 use Rattle.plan_text.specs.Value.{number_in, declared_split, start_at, declared_starts}
-use Rattle.plan_text.specs.Value.{declared_worker}
+use Rattle.plan_text.specs.Value.{declared_tree, declared_worker, rack_number}
 use Rattle.plan_text.proofs.Numbers.{number_within, numbers_differ}
 use Rattle.plan_text.proofs.Words.{tidy_splits, tidy_starts, tidy_workers}
 
@@ -65,6 +73,21 @@ module _ (rows : List Statement) (tidy : AreTidy rows) where
       ∙ sym (length-map (rows_of Worker rows) (nth_word 0)) in
       All-map (IsHeldWell n) (declared_split workers (names_of Busy rows)) (rows_of Split rows)
       (λ i d lt. held_split n workers (names_of Busy rows) _ size (tidy_splits rows tidy i d lt))
+
+  -- the wave of these parts
+  pub all_within : (tree : Tree) (workers : List WorkerLine) (splits : List wave.Split) (barred : List (List ℕ))
+      → IsWithinLimits tree
+      → tree ≡ declared_tree (names_of Centre rows) (rows_of Rack rows) (rows_of Worker rows)
+      → workers ≡ map (declared_worker (names_of Dead rows)) (rows_of Worker rows)
+      → splits ≡ map (declared_split (names_of Worker rows) (names_of Busy rows)) (rows_of Split rows)
+      → IsWaveWithin (wave_from tree workers splits barred)
+  all_within tree workers splits barred limits is_tree is_workers is_splits =
+      within tree workers splits splits barred (within_reach tree limits.centres_known)
+      (ap length is_workers ∙ length-map (rows_of Worker rows) (declared_worker (names_of Dead rows))
+      ∙ sym (length-map (rows_of Worker rows) (rack_number (names_of Rack rows)))
+      ∙ ap (λ (t : Tree). length t.rack_of) (sym is_tree))
+      limits.workers refl (moved_small _ _ _ _ (sym is_workers) (sym is_splits) all_small)
+      (moved_held _ _ _ _ (ap length (sym is_workers)) (sym is_splits) all_held)
 
 -- ---- starts
 

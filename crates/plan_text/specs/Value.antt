@@ -1,7 +1,7 @@
 -- The value that the lines of a problem and a plan declare, over whole lists and by names.
 use Rattle.std.specs.Prelude.{ℕ, List, [], ◌∷◌, ◌≡◌, ◌↔◌, Bool, not, Option, drop, length, map, max}
 use Rattle.std.specs.Prelude.{slice_index_or, unwrap_or}
-use Rattle.std.specs.List.{Contains, list_any, position}
+use Rattle.std.specs.List.{Contains, flat_map, list_any, position}
 use Rattle.std.specs.Option.{option_map}
 use Rattle.std.specs.Str.{bytes_eq}
 use Rattle.node_ids.specs.Sets.{HasPair}
@@ -47,6 +47,10 @@ declared_split workers busy s = record {
   pending = not (stands_in busy (nth_word 0 s));
   holders = map (number_in workers) (tail_words s);
 }
+
+-- the holders of these splits, split by split
+abbrev pub holders_of : List Word → List Statement → List ℕ
+holders_of workers splits = flat_map (λ s. map (number_in workers) (tail_words s)) splits
 
 -- `barred SPLIT WORKER`
 abbrev pub declared_bar : List Word → List Word → Statement → ℕ × ℕ

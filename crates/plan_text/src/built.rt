@@ -1,4 +1,5 @@
-ghost use Rattle.std.specs.Prelude.{◌≡◌, ◌<◌, ◌↔◌, ◌⊎◌, ℕ, All, Contains, IfOk, length, map, max};
+ghost use Rattle.std.specs.Prelude.{◌≡◌, ◌<◌, ◌↔◌, ◌⊎◌, ℕ, All, Contains, IfOk, OnOk, length, map, max};
+ghost use Rattle.std.specs.Prelude.{◌++◌};
 ghost use Rattle.std.specs.List.Sorted.{IsPermutation};
 ghost use Rattle.node_ids.specs.Sets.{HasPair};
 ghost use Rattle.price_certificate.specs.Certificate.{HasOneSize, claim};
@@ -10,7 +11,7 @@ ghost use Rattle.plan_text.specs.Names.{names_of};
 ghost use Rattle.plan_text.specs.Reading.{MakesPlan, MakesProblem};
 ghost use Rattle.plan_text.specs.Value.{IsBarred, MakesWave, centre_number, declared_bar, declared_split};
 ghost use Rattle.plan_text.specs.Value.{declared_starts, declared_tree, declared_worker, number_in, price_at};
-ghost use Rattle.plan_text.specs.Value.{prices_in, rack_number, start_at};
+ghost use Rattle.plan_text.specs.Value.{holders_of, prices_in, rack_number, start_at};
 
 use crate::name_list::NameList;
 use crate::place_rows::build_places;
@@ -21,7 +22,7 @@ use price_certificate::{PlacePrices, Prices};
 use rack_tree::RackTree;
 use std::alloc::{AllocError, Global};
 use text_lines::NameTable;
-use wave_problem::{Plan, Problem, ProblemError, SplitLine, WorkerLine};
+use wave_problem::{Plan, Problem, SplitLine, SplitRef, WorkerLine};
 
 /// A problem, a plan and prices of one size, prices of places, and the names of the splits and workers.
 #[derive(Drop)]
@@ -90,15 +91,12 @@ fn build_problem(alloc: Global, rows: &TidyRows<'_, '_>) -> Result<Problem, Allo
 {
     rows.are_tidy();
     let barred = build_barred(alloc, rows)?;
-    let splits = build_splits(alloc, rows)?;
+    let holders = all_holders(alloc, rows)?;
+    let splits = lent_splits(alloc, rows, &holders)?;
     let workers = build_workers(alloc, rows)?;
     let tree = build_tree(alloc, rows)?;
-    match Problem::new(alloc, tree, workers, splits, barred) {
-        Ok(problem) => Ok(problem),
-        Err(ProblemError::Memory) => Err(AllocError),
-        Err(ProblemError::Limit) => unreachable!(),
-        Err(ProblemError::Holder) => unreachable!(),
-    }
+    tree.limits();
+    Problem::within_limits(alloc, tree, workers, &splits, barred)
 }
 
 /// The racks in their centres, and the rack of each worker. The only error is want of memory.
@@ -163,35 +161,79 @@ pub fn build_splits(alloc: Global, rows: &TidyRows<'_, '_>) -> Result<Vec<SplitL
     ensures { IfOk result (λ lines. lines.items
         ≡ map (declared_split (names_of Worker rows.now) (names_of Busy rows.now)) (rows_of Split rows.now)) }
 {
-    let count = rows.count(Keyword::Split);
-    let mut lines = Vec::with_capacity(alloc, count)?;
-    for split in 0..count {
-        let holders = build_holders(alloc, rows, split)?;
+    let holders = all_holders(alloc, rows)?;
+    let splits = lent_splits(alloc, rows, &holders)?;
+    kept_splits(alloc, &splits)
+}
+
+// The same lines, each with a list of its holders.
+fn kept_splits(alloc: Global, splits: &[SplitRef<'_>]) -> Result<Vec<SplitLine>, AllocError>
+    ensures { IfOk result (λ lines. lines.items ≡ splits.now) }
+{
+    let mut lines = Vec::with_capacity(alloc, splits.len())?;
+    for split in splits {
         lines.push(SplitLine {
-            bytes: rows.amount(Keyword::Split, split, 1),
-            pending: !rows.has(Keyword::Busy, rows.word(Keyword::Split, split, 0)),
-            holders,
+            bytes: split.bytes,
+            pending: split.pending,
+            holders: Vec::from_slice(alloc, split.holders)?,
         })?;
     }
     Ok(lines)
 }
 
-fn build_holders(
+// The lines of the splits, whose holders are lent from the list of all.
+fn lent_splits<'h>(
     alloc: Global,
     rows: &TidyRows<'_, '_>,
-    split: usize,
-) -> Result<Vec<WorkerNo>, AllocError>
-    requires { split < length (rows_of Split rows.now) }
+    holders: &'h [WorkerNo],
+) -> Result<Vec<SplitRef<'h>>, AllocError>
+    requires { holders.now ≡ holders_of (names_of Worker rows.now) (rows_of Split rows.now) }
+    ensures { IfOk result (λ lines. lines.items
+        ≡ map (declared_split (names_of Worker rows.now) (names_of Busy rows.now)) (rows_of Split rows.now)) }
+{
+    let count = rows.count(Keyword::Split);
+    let mut lines = Vec::with_capacity(alloc, count)?;
+    let mut rest = holders;
+    for split in 0..count {
+        let (held, after) = rest.split_at(rows.holders(split).len());
+        lines.push(SplitRef {
+            bytes: rows.amount(Keyword::Split, split, 1),
+            pending: !rows.has(Keyword::Busy, rows.word(Keyword::Split, split, 0)),
+            holders: held,
+        })?;
+        rest = after;
+    }
+    Ok(lines)
+}
+
+// The holders of all splits, split by split.
+fn all_holders(alloc: Global, rows: &TidyRows<'_, '_>) -> Result<Vec<WorkerNo>, AllocError>
     ensures { IfOk result (λ holders. holders.items
-        ≡ map (number_in (names_of Worker rows.now)) (tail_words (nth_row Split split rows.now))) }
+        ≡ holders_of (names_of Worker rows.now) (rows_of Split rows.now)) }
+{
+    let mut holders = Vec::new(alloc);
+    for split in 0..rows.count(Keyword::Split) {
+        put_holders(rows, split, &mut holders)?;
+    }
+    Ok(holders)
+}
+
+// Puts the holders of a split behind the holders of the splits before it.
+fn put_holders(
+    rows: &TidyRows<'_, '_>,
+    split: usize,
+    holders: &mut Vec<WorkerNo>,
+) -> Result<(), AllocError>
+    requires { split < length (rows_of Split rows.now) }
+    ensures { OnOk result (holders.new.items ≡ holders.old.items
+        ++ map (number_in (names_of Worker rows.now)) (tail_words (nth_row Split split rows.now))) }
 {
     rows.are_tidy();
     let names = rows.holders(split);
-    let mut holders = Vec::with_capacity(alloc, names.len())?;
     for name in names {
         holders.push(rows.worker(name))?;
     }
-    Ok(holders)
+    Ok(())
 }
 
 fn build_barred(alloc: Global, rows: &TidyRows<'_, '_>) -> Result<PairSet, AllocError>

@@ -2,7 +2,7 @@ use Rattle.std.proofs.Common.{◌<◌, arith, length}
 use Rattle.line_shapes.specs.declared.keyword.Keyword.TheVariants.{Split}
 use Rattle.line_rules.specs.Known.{rows_of}
 use Rattle.plan_text.proofs.Words.{split_at}
-use Rattle.plan_text.proofs.built.build_splits.Goals as goal
+use Rattle.plan_text.proofs.built.lent_splits.Goals as goal
 
 pub amount-requires-clause-amount : goal.amount-requires-clause-amount
 amount-requires-clause-amount c =

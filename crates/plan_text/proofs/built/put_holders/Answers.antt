@@ -1,4 +1,5 @@
-use Rattle.std.proofs.Common.{ℕ, List, ◌∙◌, ap, map, subst, sym, take_all}
+use Rattle.std.proofs.Common.{List}
+use Rattle.std.proofs.Common.{ℕ, ◌++◌, ◌∙◌, ap, map, subst, sym, take_all}
 use Rattle.std.specs.List.{All, Contains}
 use Rattle.std.proofs.lemmas.Simd.{map-map}
 use Rattle.line_shapes.specs.declared.keyword.Keyword.TheVariants.{Worker}
@@ -6,7 +7,7 @@ use Rattle.plan_text.specs.Names.{names_of}
 use Rattle.plan_text.specs.Value.{number_in}
 use Rattle.plan_text.proofs.Parts.{All-unmap}
 use Rattle.plan_text.proofs.Words.{split_at}
-use Rattle.plan_text.proofs.built.build_holders.Goals as goal
+use Rattle.plan_text.proofs.built.put_holders.Goals as goal
 
 pub worker-requires : goal.worker-requires
 worker-requires c =
@@ -22,5 +23,7 @@ returns c =
     let number : List ℕ → ℕ = number_in (names_of Worker c.args.rows.now) in
     let names = c.holders-names.result.now in
     c.loop-name.invariant
-    ∙ ap (map (λ n. number n.now)) (take_all c.loop-name.name-index names c.loop-name-test.false)
-    ∙ sym (map-map number (λ h. h.now) names) ∙ ap (map number) c.holders-names.ensures
+    ∙ ap (λ ns. c.args.holders.now.items ++ map (λ n. number n.now) ns)
+    (take_all c.loop-name.name-index names c.loop-name-test.false)
+    ∙ ap (λ ns. c.args.holders.now.items ++ ns)
+    (sym (map-map number (λ h. h.now) names) ∙ ap (map number) c.holders-names.ensures)
