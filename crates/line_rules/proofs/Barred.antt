@@ -57,14 +57,14 @@ name_past k rows n past =
     ap (λ (s : Statement). get_or s.words 0 []) (get_or_past (rows_of k rows) n (no_row k) past)
 
 module _ (rows more : List Statement) where
-  name_kept : (k : Keyword) (n : ℕ) → n < length (rows_of k rows)
+  pub name_kept : (k : Keyword) (n : ℕ) → n < length (rows_of k rows)
       → name_in k (rows ++ more) n ≡ name_in k rows n
   name_kept k n lt =
       ap (λ (l : List Statement). get_or (get_or l n (no_row k)).words 0 []) (filter-append (is_of k) rows more)
       ∙ ap (λ (s : Statement). get_or s.words 0 [])
       (get_or_append_left (rows_of k rows) (rows_of k more) (no_row k) n lt)
 
-  count_kept : (k : Keyword) (n : ℕ) → n < length (rows_of k rows) → n < length (rows_of k (rows ++ more))
+  pub count_kept : (k : Keyword) (n : ℕ) → n < length (rows_of k rows) → n < length (rows_of k (rows ++ more))
   count_kept k n lt =
       let all : length (rows_of k (rows ++ more)) ≡ length (rows_of k rows ++ rows_of k more) =
       ap length (filter-append (is_of k) rows more) in

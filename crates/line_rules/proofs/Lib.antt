@@ -25,3 +25,4 @@ pub mod Longer
 pub mod Worded
 pub mod Worst
 pub mod Numbered
+pub mod Held

@@ -13,6 +13,7 @@ ghost use Rattle.line_rules.specs.declared.entering.Entering.TheVariants.{Nothin
 ghost use Rattle.text_lines.specs.declared.fault.Fault.{Fault};
 ghost use Rattle.line_rules.specs.Entered.{AreFit, IsSoundBefore};
 ghost use Rattle.line_rules.specs.Known.{Known, entered, known_at};
+ghost use Rattle.line_rules.specs.Holders.{AreHolders, AreHoldersOf};
 ghost use Rattle.line_rules.specs.Names.{IsNamed};
 ghost use Rattle.line_rules.specs.Rows.{IsBarOf};
 ghost use Rattle.line_shapes.specs.declared.keyword.Keyword.{Keyword};
@@ -51,6 +52,8 @@ pub struct KnownLines<'t> {
     section: Section,
     rows: Rows<'t>,
     commands: CommandList<'t>,
+    // The numbers of the holders of all splits, split by split.
+    holders: Vec<u32>,
 }
 
 // (one call wherever it is dropped)
@@ -62,6 +65,7 @@ impl<'t> Drop for KnownLines<'t> {
             section: _,
             rows: _,
             commands: _,
+            holders: _,
         } = self;
     }
 }
@@ -77,7 +81,7 @@ impl<'t> Model for KnownLines<'t> {
       commands = k.commands;
     } };
 
-    ghost invariant = { λ k. IsSoundBefore k.version k.section k.rows };
+    ghost invariant = { λ k. IsSoundBefore k.version k.section k.rows × AreHolders k.rows k.holders.items };
 }
 
 impl<'t> KnownLines<'t> {
@@ -100,6 +104,7 @@ impl<'t> KnownLines<'t> {
             section: Section::First,
             rows,
             commands: CommandList::new(alloc),
+            holders: Vec::new(alloc),
         })
     }
 
@@ -143,6 +148,13 @@ impl<'t> KnownLines<'t> {
         ensures { result.now ≡ self.now.rows }
     {
         &self.rows
+    }
+
+    /// The numbers of the workers that hold the splits, split by split.
+    pub fn holders(&self) -> &[u32]
+        ensures { AreHolders self.now.rows result.now }
+    {
+        &self.holders
     }
 
     // Whether as many words follow those in the places of the line as have to.
@@ -272,24 +284,35 @@ impl<'t> KnownLines<'t> {
         }
     }
 
-    /// Takes one line more; `rest` is what follows the space after its keyword, and `bar` are the numbers of the
-    /// pair that it bars, where they are known. After an error it was not taken.
+    /// Takes one line more; `rest` is what follows the space after its keyword, `bar` are the numbers of the pair
+    /// that it bars, where they are known, and `holders` those of its holders. After an error it was not taken.
     pub fn enter(
         &mut self,
         line: &KeyedLine<'_, 't>,
         rest: Option<&'t str>,
         bar: Option<(u32, u32)>,
+        holders: &[u32],
     ) -> Result<(), AllocError>
         requires fit { IsFit self.old (statement_of line.now) }
         requires rest { (statement_of line.now).words ≡ words_after line.now.keyword rest }
         requires bar { IfSome bar (IsBarOf self.old.rows (statement_of line.now)) }
+        requires holders { AreHoldersOf self.old.rows (statement_of line.now) holders.now }
         ensures ok { OnOk result (self.new ≡ entered self.old (statement_of line.now)) }
         ensures err { OnErr result (self.new ≡ self.old) }
     {
-        put(line, rest, bar, &mut self.rows, &mut self.commands)?;
-        self.version = version_after(self.version, line);
-        self.section = section_after(line.keyword);
-        Ok(())
+        let count = self.holders.len();
+        self.holders.extend_from_slice(holders)?;
+        match put(line, rest, bar, &mut self.rows, &mut self.commands) {
+            Ok(()) => {
+                self.version = version_after(self.version, line);
+                self.section = section_after(line.keyword);
+                Ok(())
+            }
+            Err(error) => {
+                self.holders.truncate(count);
+                Err(error)
+            }
+        }
     }
 }
 

@@ -19,6 +19,7 @@ pub mod command_list;
 pub mod edition;
 pub mod entering;
 mod fit;
+mod holders;
 pub mod known;
 pub mod line_list;
 pub mod line_reader;

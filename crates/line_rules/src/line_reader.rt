@@ -65,13 +65,15 @@ pub fn read_lines(
     }
     let mut known = KnownLines::before(alloc, purpose, text.len())?;
     let mut words = Vec::new(alloc);
-    take_lines(&mut words, text, &mut known)?;
+    take_lines(&mut words, &mut Vec::new(alloc), text, &mut known)?;
     Ok(known)
 }
 
-// Takes all lines of a text, and what follows the last line feed. `words` holds those of one line at a time.
+// Takes all lines of a text, and what follows the last line feed. `words` holds those of one line at a time, and
+// `holders` the numbers of its holders.
 fn take_lines<'t>(
     words: &mut Vec<&'t str>,
+    holders: &mut Vec<u32>,
     text: &'t [u8],
     known: &mut KnownLines<'t>,
 ) -> Result<(), ReadingError>
@@ -91,7 +93,7 @@ fn take_lines<'t>(
                 None => Ok(()),
             };
         };
-        if let Err(error) = take_line(words, printable, line, known) {
+        if let Err(error) = take_line(words, holders, printable, line, known) {
             return Err(error_in(lines_read + 1, error));
         }
         rest = after;
@@ -100,9 +102,10 @@ fn take_lines<'t>(
 }
 
 // Takes a line, given without its line feed. `printable` says that all its bytes are known to be printable.
-// The line's words replace the words that `words` had.
+// The line's words and the numbers of its holders replace what `words` and `holders` had.
 fn take_line<'t>(
     words: &mut Vec<&'t str>,
+    holders: &mut Vec<u32>,
     printable: bool,
     line: &'t [u8],
     known: &mut KnownLines<'t>,
@@ -112,8 +115,8 @@ fn take_line<'t>(
     ensures err { IfErr result (IsLeastError (LineHas known.old line.entry.now)) }
     ensures memory { result ≡ Err LineError.Memory → HasKeyword known.old line.entry.now }
 {
-    let fit = fit_line_in(words, printable, line, known)?;
-    known.enter(&fit.line, fit.rest, fit.bar)?;
+    let fit = fit_line_in(words, holders, printable, line, known)?;
+    known.enter(&fit.line, fit.rest, fit.bar, holders)?;
     Ok(())
 }
 

@@ -1,4 +1,4 @@
-ghost use Rattle.std.specs.Prelude.{◌≡◌, All, Err, IfErr, IfOk, IfSome, IsSome, IsTrue, MatchOption, map};
+ghost use Rattle.std.specs.Prelude.{◌≡◌, ◌↔◌, All, Err, IfErr, IfOk, IfSome, IsSome, IsTrue, MatchOption, map};
 ghost use Rattle.text_lines.specs.Texts.{IsPrintable};
 ghost use Rattle.line_shapes.specs.Demands.{Meet};
 ghost use Rattle.line_shapes.specs.Lines.{IsShaped, stated, statement_of, words_after};
@@ -6,12 +6,14 @@ ghost use Rattle.line_shapes.specs.declared.demand.Demand.TheVariants.{Shape};
 ghost use Rattle.line_rules.specs.Faults.{IsFit, IsLeastOf};
 ghost use Rattle.line_rules.specs.Long.{WordsHave};
 ghost use Rattle.line_rules.specs.Entered.{AreFit};
+ghost use Rattle.line_rules.specs.Holders.{AreHoldersOf, IsHeld};
 ghost use Rattle.line_rules.specs.Rows.{IsBarOf};
 ghost use Rattle.line_rules.specs.declared.edition.Version.{Version};
 ghost use Rattle.line_rules.specs.Reading.{HasKeyword, IsFitLine, IsLeastError};
 ghost use Rattle.line_rules.specs.Texts.{LineHas};
 
 use crate::fit::{are_fit, are_fit_splits, bar_of};
+use crate::holders::{find_holders, words_to_ask};
 use crate::known::KnownLines;
 use crate::line_reader::{LineError, is_ended};
 use crate::long::cut_most;
@@ -29,7 +31,8 @@ pub fn fit_line<'w, 'l>(
     ensures err { IfErr result (IsLeastError (LineHas known.now line.entry.now)) }
     ensures memory { result ≡ Err LineError.Memory → HasKeyword known.now line.entry.now }
 {
-    let fit = fit_line_in(words, false, line, known)?;
+    let mut holders = Vec::new(*words.allocator());
+    let fit = fit_line_in(words, &mut holders, false, line, known)?;
     Ok(fit.line)
 }
 
@@ -42,11 +45,12 @@ pub(crate) struct FitLine<'w, 'l> {
     pub bar: Option<(u32, u32)>,
 }
 
-// The same, with what else is known of the line. `printable` says that all bytes of the line are known to be
-// printable.
+// The same, with what else is known of the line, and with the numbers of its holders in place of what `holders`
+// had. `printable` says that all bytes of the line are known to be printable.
 #[inline(always)]
 pub(crate) fn fit_line_in<'w, 'l>(
     words: &'w mut Vec<&'l str>,
+    holders: &mut Vec<u32>,
     printable: bool,
     line: &'l [u8],
     known: &KnownLines<'_>,
@@ -56,6 +60,8 @@ pub(crate) fn fit_line_in<'w, 'l>(
     ensures rest { IfOk result (λ fit.
         (statement_of fit.line).words ≡ words_after fit.line.keyword fit.rest) }
     ensures bar { IfOk result (λ fit. IfSome fit.bar (IsBarOf known.now.rows (statement_of fit.line))) }
+    ensures holders { IfOk result (λ fit.
+        AreHoldersOf known.now.rows (statement_of fit.line) holders.new.items) }
     ensures err { IfErr result (IsLeastError (LineHas known.now line.entry.now)) }
     ensures memory { result ≡ Err LineError.Memory → HasKeyword known.now line.entry.now }
 {
@@ -69,28 +75,33 @@ pub(crate) fn fit_line_in<'w, 'l>(
         return Err(LineError::Fault(Fault::Shape));
     };
     cut_most(known, keyword, rest, words)?;
-    match fit_words(keyword, words.as_slice(), known) {
+    let words = words.as_slice();
+    let held = find_holders(known.rows(), keyword, words, holders)?;
+    match fit_words(keyword, words, held, known) {
         Ok((line, bar)) => Ok(FitLine { line, rest, bar }),
         Err(fault) => Err(LineError::Fault(fault)),
     }
 }
 
 // What these words say after the keyword, with the numbers of the pair that they bar, where these are known; or
-// the least fault. Most words are found fit at once.
+// the least fault. Most words are found fit at once. `held` says whether each holder of a split is a worker.
 fn fit_words<'w, 'l>(
     keyword: Keyword,
     words: &'w [&'l str],
+    held: bool,
     known: &KnownLines<'_>,
 ) -> Result<(KeyedLine<'w, 'l>, Option<(u32, u32)>), Fault>
+    requires { IsTrue held ↔ IsHeld known.now.rows (stated keyword words.now) }
     ensures said { IfOk result (λ said. statement_of said.0 ≡ stated keyword words.entry.now) }
     ensures shaped { IfOk result (λ said. IsShaped (statement_of said.0)) }
     ensures fit { IfOk result (λ said. IsFit known.now (statement_of said.0)) }
     ensures bar { IfOk result (λ said. IfSome said.1 (IsBarOf known.now.rows (statement_of said.0))) }
+    ensures held { IfOk result (λ _. IsTrue held) }
     ensures err { IfErr result (IsLeastOf (WordsHave known.now keyword (map (λ w. w.now) words.entry.now))) }
 {
     let apart = are_fit_splits(known.rows(), known.version(), keyword, words);
     let bar = bar_of(known.rows(), keyword, words);
-    let fit = apart || are_all_fit(known, bar, keyword, words);
+    let fit = apart || are_all_fit(known, held, bar, keyword, words);
     match said(fit, keyword, words) {
         Some(line) => match known.fault_of(fit, apart, bar, &line) {
             Some(fault) => Err(fault),
@@ -104,15 +115,18 @@ fn fit_words<'w, 'l>(
 #[inline(always)]
 fn are_all_fit(
     known: &KnownLines<'_>,
+    held: bool,
     bar: Option<(u32, u32)>,
     keyword: Keyword,
     words: &[&str],
 ) -> bool
-    requires { IsSome bar → (version : Version)
+    requires held { IsTrue held → IsHeld known.now.rows (stated keyword words.now) }
+    requires bar { IsSome bar → (version : Version)
         → AreFit version known.now.rows (stated keyword words.now) }
     ensures { IsTrue result → AreFit known.now.version known.now.rows (stated keyword words.now) }
 {
-    bar.is_some() || are_fit(known.rows(), known.version(), keyword, words)
+    let asked = words_to_ask(held, keyword, words);
+    bar.is_some() || are_fit(known.rows(), known.version(), keyword, asked)
 }
 
 // What `said_by` answers: fit words are known to have the shapes of their places.

@@ -446,7 +446,7 @@ fn pair_number(
 }
 
 // A number of a row in 32 bits. More rows of a keyword than these count are an error of memory.
-fn short_number(number: usize) -> Result<u32, AllocError>
+pub(crate) fn short_number(number: usize) -> Result<u32, AllocError>
     ensures { IfOk result (λ short. short ≡ number) }
 {
     if number < MOST_ROWS {

@@ -1,25 +1,31 @@
 -- The names of a keyword's rows, the keys that they have, and the numbers that they stand for.
 use Rattle.std.proofs.Common.{ℕ, List, [], ◌≡◌, ◌≢◌, ◌<◌, ◌∙◌, Bool, true, false, ap}
 use Rattle.std.proofs.Common.{arith, get_or, length, refl, subst, sym, take, Option, Some, None}
+use Rattle.std.proofs.Common.{◌∷◌, ◌++◌, map, suc, unwrap_or}
 use Rattle.std.specs.Prelude.{◌↔◌, IsTrue, MatchOption}
 use Rattle.std.specs.Bool.{Decides}
-use Rattle.std.specs.List.{AllPairs, Contains, position}
+use Rattle.std.specs.List.{All, AllPairs, Contains, flat_map, position}
 use Rattle.std.specs.Str.{bytes_eq}
-use Rattle.std.proofs.lemmas.List.{get_or-map, get_or-take, length-map, length-take}
+use Rattle.std.proofs.lemmas.List.{get_or-map, get_or-take, length-map, length-take, map-append}
+use Rattle.std.proofs.lemmas.Simd.{map-map}
 use Rattle.std.proofs.lemmas.List.Elements.{Contains-get_or, filter_passes}
 use Rattle.std.proofs.lemmas.List.Kept.{AllPairs-filter}
 use Rattle.std.proofs.lemmas.Slice.Eq.{bytes_eq-Decides}
 use Rattle.node_ids.proofs.Positions.{position_found, position_none}
 use Rattle.text_lines.specs.Texts.{Word}
-use Rattle.line_shapes.specs.Lines.{Statement}
+use Rattle.line_shapes.specs.Lines.{Statement, tail_words}
 use Rattle.line_shapes.specs.declared.keyword.Keyword.{Keyword}
 use Rattle.line_shapes.proofs.Mapped.{AllPairs-map, AllPairs-unmap}
 use Rattle.line_rules.specs.Entering.{Key, entering_of, key_of}
+use Rattle.line_shapes.specs.declared.keyword.Keyword.TheVariants.{Split, Worker}
+use Rattle.line_rules.specs.Holders.{AreHolders}
+use Rattle.line_rules.specs.Rows.{name_in}
+use Rattle.line_rules.proofs.Barred.{has_name}
 use Rattle.line_rules.specs.Known.{HasNumber, HasRow, is_of, keys_of, nth_row, rows_of}
 use Rattle.line_rules.specs.declared.entering.Entering.TheVariants.{Word as ByWord}
 use Rattle.line_rules.proofs.OfKeyword.{contains_map, has_row_of, in_rows_of, keyword_of}
 use Rattle.plan_text.specs.Names.{names_of, nth_word}
-use Rattle.plan_text.specs.Value.{stands_in}
+use Rattle.plan_text.specs.Value.{holders_of, number_in, stands_in}
 use Rattle.plan_text.proofs.Numbers.{stands_by}
 
 abbrev no_word : Keyword → Statement
@@ -126,3 +132,30 @@ stands_named k by rows name b has =
       λ t. row_named k by rows name (has.0 t),
       λ h. has.1 (named_row k by rows name h),
     )
+
+-- ---- the holders of splits
+
+-- a worker's name gives its number back
+numbers_back : (rows : List Statement) → AllPairs (λ a b. a ≢ b) (keys_of rows) → (ns : List ℕ)
+    → All (λ n. n < length (rows_of Worker rows)) ns
+    → ns ≡ map (λ n. number_in (names_of Worker rows) (name_in Worker rows n)) ns
+numbers_back rows differ [] within = refl
+numbers_back rows differ (n ∷ ns) within = λ i.
+    ap (λ o. unwrap_or o 0) (number_found Worker refl rows differ (name_in Worker rows n) (Some n)
+    (has_name Worker refl rows n (within 0 0 (omega arith)))) i
+    ∷ numbers_back rows differ ns (λ k d lt. within (suc k) d (omega arith)) i
+
+parts_mapped : (f : Word → ℕ) (splits : List Statement)
+    → map f (flat_map tail_words splits) ≡ flat_map (λ s. map f (tail_words s)) splits
+parts_mapped f [] = refl
+parts_mapped f (s ∷ ss) =
+    map-append f (tail_words s) (flat_map tail_words ss)
+    ∙ ap (λ ns. map f (tail_words s) ++ ns) (parts_mapped f ss)
+
+-- the numbers that were found as the lines were read are those of the names
+pub holders_numbered : (rows : List Statement) → AllPairs (λ a b. a ≢ b) (keys_of rows) → (ns : List ℕ)
+    → AreHolders rows ns → ns ≡ holders_of (names_of Worker rows) (rows_of Split rows)
+holders_numbered rows differ ns are =
+    let number = number_in (names_of Worker rows) in
+    numbers_back rows differ ns are.within ∙ sym (map-map number (name_in Worker rows) ns)
+    ∙ ap (map number) are.named ∙ parts_mapped number (rows_of Split rows)

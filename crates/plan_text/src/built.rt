@@ -1,16 +1,14 @@
-ghost use Rattle.std.specs.Prelude.{◌≡◌, ◌<◌, ◌↔◌, ◌⊎◌, ℕ, All, Contains, IfOk, OnOk, length, map, max};
-ghost use Rattle.std.specs.Prelude.{◌++◌};
+ghost use Rattle.std.specs.Prelude.{◌≡◌, ◌<◌, ◌↔◌, ◌⊎◌, ℕ, All, Contains, IfOk, length, map, max};
 ghost use Rattle.std.specs.List.Sorted.{IsPermutation};
 ghost use Rattle.node_ids.specs.Sets.{HasPair};
 ghost use Rattle.price_certificate.specs.Certificate.{HasOneSize, claim};
-ghost use Rattle.line_shapes.specs.Lines.{tail_words};
 ghost use Rattle.line_shapes.specs.declared.keyword.Keyword.TheVariants.{Barred, Busy, Centre, Dead, Price};
 ghost use Rattle.line_shapes.specs.declared.keyword.Keyword.TheVariants.{Rack, Split, Start, Worker};
-ghost use Rattle.line_rules.specs.Known.{nth_row, rows_of};
+ghost use Rattle.line_rules.specs.Known.{rows_of};
 ghost use Rattle.plan_text.specs.Names.{names_of};
 ghost use Rattle.plan_text.specs.Reading.{MakesPlan, MakesProblem};
 ghost use Rattle.plan_text.specs.Value.{IsBarred, MakesWave, centre_number, declared_bar, declared_split};
-ghost use Rattle.plan_text.specs.Value.{declared_starts, declared_tree, declared_worker, number_in, price_at};
+ghost use Rattle.plan_text.specs.Value.{declared_starts, declared_tree, declared_worker, price_at};
 ghost use Rattle.plan_text.specs.Value.{holders_of, prices_in, rack_number, start_at};
 
 use crate::name_list::NameList;
@@ -91,7 +89,7 @@ fn build_problem(alloc: Global, rows: &TidyRows<'_, '_>) -> Result<Problem, Allo
 {
     rows.are_tidy();
     let barred = build_barred(alloc, rows)?;
-    let holders = all_holders(alloc, rows)?;
+    let holders = numbered(alloc, rows.holders())?;
     let splits = lent_splits(alloc, rows, &holders)?;
     let workers = build_workers(alloc, rows)?;
     let tree = build_tree(alloc, rows)?;
@@ -161,7 +159,7 @@ pub fn build_splits(alloc: Global, rows: &TidyRows<'_, '_>) -> Result<Vec<SplitL
     ensures { IfOk result (λ lines. lines.items
         ≡ map (declared_split (names_of Worker rows.now) (names_of Busy rows.now)) (rows_of Split rows.now)) }
 {
-    let holders = all_holders(alloc, rows)?;
+    let holders = numbered(alloc, rows.holders())?;
     let splits = lent_splits(alloc, rows, &holders)?;
     kept_splits(alloc, &splits)
 }
@@ -195,7 +193,7 @@ fn lent_splits<'h>(
     let mut lines = Vec::with_capacity(alloc, count)?;
     let mut rest = holders;
     for split in 0..count {
-        let (held, after) = rest.split_at(rows.holders(split).len());
+        let (held, after) = rest.split_at(rows.holder_count(split));
         lines.push(SplitRef {
             bytes: rows.amount(Keyword::Split, split, 1),
             pending: !rows.has(Keyword::Busy, rows.word(Keyword::Split, split, 0)),
@@ -206,34 +204,16 @@ fn lent_splits<'h>(
     Ok(lines)
 }
 
-// The holders of all splits, split by split.
-fn all_holders(alloc: Global, rows: &TidyRows<'_, '_>) -> Result<Vec<WorkerNo>, AllocError>
-    ensures { IfOk result (λ holders. holders.items
-        ≡ holders_of (names_of Worker rows.now) (rows_of Split rows.now)) }
+// The workers of these numbers.
+fn numbered(alloc: Global, numbers: &[u32]) -> Result<Vec<WorkerNo>, AllocError>
+    requires { All (λ number. number < 32768) numbers.now }
+    ensures { IfOk result (λ workers. workers.items ≡ numbers.now) }
 {
-    let mut holders = Vec::new(alloc);
-    for split in 0..rows.count(Keyword::Split) {
-        put_holders(rows, split, &mut holders)?;
+    let mut workers = Vec::with_capacity(alloc, numbers.len())?;
+    for number in numbers {
+        workers.push_reserved(WorkerNo::new(*number as u16));
     }
-    Ok(holders)
-}
-
-// Puts the holders of a split behind the holders of the splits before it.
-fn put_holders(
-    rows: &TidyRows<'_, '_>,
-    split: usize,
-    holders: &mut Vec<WorkerNo>,
-) -> Result<(), AllocError>
-    requires { split < length (rows_of Split rows.now) }
-    ensures { OnOk result (holders.new.items ≡ holders.old.items
-        ++ map (number_in (names_of Worker rows.now)) (tail_words (nth_row Split split rows.now))) }
-{
-    rows.are_tidy();
-    let names = rows.holders(split);
-    for name in names {
-        holders.push(rows.worker(name))?;
-    }
-    Ok(())
+    Ok(workers)
 }
 
 fn build_barred(alloc: Global, rows: &TidyRows<'_, '_>) -> Result<PairSet, AllocError>

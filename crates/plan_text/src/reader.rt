@@ -16,7 +16,7 @@ pub fn read_plan(alloc: Global, text: &[u8]) -> Result<PlanText<'_>, ReadingErro
     ensures err { IfErr result (IsReadingError Purpose.Checking text.entry.now) }
 {
     let known = read_lines(alloc, Purpose::Checking, text)?;
-    let rows = TidyRows::new(known.rows());
+    let rows = TidyRows::new(&known);
     Ok(build_plan_text(alloc, &rows)?)
 }
 
@@ -30,6 +30,6 @@ pub fn read_problem(alloc: Global, text: &[u8]) -> Result<ProblemText<'_>, Readi
     ensures err { IfErr result (IsReadingError Purpose.Planning text.entry.now) }
 {
     let known = read_lines(alloc, Purpose::Planning, text)?;
-    let rows = TidyRows::new(known.rows());
+    let rows = TidyRows::new(&known);
     Ok(build_problem_text(alloc, &rows)?)
 }

@@ -1,19 +1,20 @@
-ghost use Rattle.std.specs.Prelude.{◌≡◌, ◌<◌, List, Contains, IfOk, length, map};
+ghost use Rattle.std.specs.Prelude.{◌≡◌, ◌<◌, List, All, Contains, IfOk, length};
 ghost use Rattle.std.specs.List.{position};
 ghost use Rattle.std.specs.Str.{bytes_eq};
 ghost use Rattle.text_lines.specs.Texts.{number_of};
 ghost use Rattle.line_shapes.specs.Lines.{Statement, tail_words};
 ghost use Rattle.line_shapes.specs.declared.keyword.Keyword.TheVariants.{Rack, Split, Worker};
 ghost use Rattle.line_rules.specs.Entering.{entering_of as entering};
+ghost use Rattle.line_rules.specs.Holders.{AreHolders};
 ghost use Rattle.line_rules.specs.Known.{nth_row, rows_of};
 ghost use Rattle.line_rules.specs.Said.{row_said};
 ghost use Rattle.line_rules.specs.declared.entering.Entering.TheVariants.{Word as ByWord};
 ghost use Rattle.plan_text.specs.Names.{names_of, nth_word};
 ghost use Rattle.plan_text.specs.Tidy.{AreTidy, IsAtMost};
-ghost use Rattle.plan_text.specs.Value.{number_in, stands_in};
+ghost use Rattle.plan_text.specs.Value.{holders_of, number_in, stands_in};
 
 use crate::name_list::NameList;
-use line_rules::{Row, Rows};
+use line_rules::{KnownLines, Row, Rows};
 use line_shapes::Keyword;
 use node_ids::{RackNo, SplitNo, WorkerNo};
 use std::alloc::{AllocError, Global};
@@ -25,6 +26,7 @@ use text_lines::{NameTable, value_in};
 #[derive(Drop)]
 pub struct TidyRows<'r, 't> {
     rows: &'r Rows<'t>,
+    holders: &'r [u32],
 }
 
 impl<'r, 't> Model for TidyRows<'r, 't> {
@@ -32,16 +34,19 @@ impl<'r, 't> Model for TidyRows<'r, 't> {
 
     ghost view = { λ t. t.rows.now };
 
-    ghost invariant = { λ t. AreTidy t.rows.now };
+    ghost invariant = { λ t. AreTidy t.rows.now × AreHolders t.rows.now t.holders.now };
 }
 
 impl<'r, 't> TidyRows<'r, 't> {
-    /// These rows, which have no fault.
-    pub fn new(rows: &'r Rows<'t>) -> TidyRows<'r, 't>
-        requires { AreTidy rows.now }
-        ensures { result ≡ rows.now }
+    /// The rows of these lines, which have no fault.
+    pub fn new(known: &'r KnownLines<'t>) -> TidyRows<'r, 't>
+        requires { AreTidy known.now.rows }
+        ensures { result ≡ known.now.rows }
     {
-        TidyRows { rows }
+        TidyRows {
+            rows: known.rows(),
+            holders: known.holders(),
+        }
     }
 
     /// Does nothing. Its contract tells a proof that the rows are tidy.
@@ -78,14 +83,22 @@ impl<'r, 't> TidyRows<'r, 't> {
         self.row(keyword, number).word(place)
     }
 
-    /// The holders of a split.
-    pub fn holders(&self, split: usize) -> &'r [&'t str]
+    /// The numbers of the holders of all splits, split by split.
+    pub fn holders(&self) -> &'r [u32]
+        ensures value { result.now ≡ holders_of (names_of Worker self.now) (rows_of Split self.now) }
+        ensures within { All (λ h. h < 32768) result.now }
+    {
+        self.holders
+    }
+
+    /// How many holders a split has.
+    pub fn holder_count(&self, split: usize) -> usize
         requires { split < length (rows_of Split self.now) }
-        ensures { map (λ w. w.now) result.now ≡ tail_words (nth_row Split split self.now) }
+        ensures { result ≡ length (tail_words (nth_row Split split self.now)) }
     {
         self.are_tidy();
         match self.row(Keyword::Split, split) {
-            Row::Line(line) => &line.words[2..],
+            Row::Line(line) => line.words.len() - 2,
             Row::Bar(_) => unreachable!(),
         }
     }

@@ -86,7 +86,7 @@ fn script_of<'t>(alloc: Global, known: &KnownLines<'t>) -> Result<ScriptText<'t>
     ensures head { IfOk result (λ value. MakesHead known.now.version known.now.rows value.head) }
     ensures fit { IfOk result (λ value. IsFitHead value.head) }
 {
-    let rows = TidyRows::new(known.rows());
+    let rows = TidyRows::new(known);
     let head = build_head(alloc, known.version(), &rows)?;
     let script = build_script(alloc, &rows, known.commands())?;
     Ok(ScriptText { head, script })

@@ -12,7 +12,7 @@ use Rattle.line_rules.proofs.known.KnownLines.fault_of.Goals as goal
 pub is_named-requires : goal.is_named-requires
 is_named-requires c fit =
     let line = statement_of c.args.line.now in
-    let sound = subst (λ (k : Known). IsSoundBefore k.version k.section k.rows) c.self.view_is c.self.invariant in
+    let sound = subst (λ (k : Known). IsSoundBefore k.version k.section k.rows) c.self.view_is c.self.invariant.0 in
     subst (λ (k : Known). IsNamed k.version line) (sym c.self.view_is)
     (fit_named _ _ line sound.sound (c.requires.fit fit))
 

@@ -11,5 +11,5 @@ returns c =
     let name = c.args.name.now in
     subst (λ (rows : List Statement). c.number.result
     ≡ position (λ n. bytes_eq name n) (names_of c.args.keyword rows)) c.self.view_is
-    (number_found c.args.keyword c.requires c.self.inside.rows.now c.self.invariant.differ name
+    (number_found c.args.keyword c.requires c.self.inside.rows.now c.self.invariant.0.differ name
     c.number.result c.number.ensures)

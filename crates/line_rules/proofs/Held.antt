@@ -1,0 +1,171 @@
+-- The numbers of the workers that hold splits.
+use Rattle.std.proofs.Common.{ℕ, List, [], ◌∷◌, ◌++◌, ◌≡◌, ◌<◌, ◌∙◌, Bool, Bor, true, false, ap, append-nil, arith}
+use Rattle.std.proofs.Common.{cond, drop, get_or, length, length-drop, map, refl, subst, suc, sym, take, take_all, zero}
+use Rattle.std.proofs.Common.{◌+◌, ◌-◌, min, None, Option, Some}
+use Rattle.std.specs.Prelude.{Contains, MatchOption}
+use Rattle.std.specs.List.{All, filter, flat_map}
+use Rattle.std.proofs.lemmas.Grind.{flat_map-append}
+use Rattle.std.proofs.lemmas.List.{get_or-map, get_or_default, length-map, map-append, take_more}
+use Rattle.std.proofs.lemmas.List.Elements.{All-append, All-cons, All-nil, All-weaker, filter-append}
+use Rattle.text_lines.specs.Texts.{Word}
+use Rattle.line_shapes.specs.Demands.{Meet}
+use Rattle.line_shapes.specs.Lines.{IsShaped, Statement, stated, tail_words}
+use Rattle.line_shapes.specs.declared.demand.Demand.TheVariants.{Shape}
+use Rattle.line_shapes.specs.declared.keyword.Keyword.{Keyword}
+use Rattle.line_shapes.specs.declared.keyword.Keyword.TheVariants.{Split, Worker}
+use Rattle.line_rules.specs.Entered.{AreFit}
+use Rattle.line_rules.specs.Entering.{entered_by, entered_of, entering_of}
+use Rattle.line_rules.specs.Faults.{Keep}
+use Rattle.line_rules.specs.Holders.{AreHolders, AreHoldersOf, AreNumbersOf, IsHeld, IsWorker, holders_in}
+use Rattle.line_rules.specs.Known.{HasNumber, is_of, keys_of, rows_of}
+use Rattle.line_rules.specs.Rows.{name_in}
+use Rattle.line_rules.specs.declared.edition.Version.{Version}
+use Rattle.line_rules.specs.declared.entering.Entering.{Entering}
+use Rattle.line_rules.specs.declared.entering.Entering.TheVariants.{Nothing, InTurn}
+use Rattle.line_rules.specs.declared.rule.Rule.TheVariants.{Declared}
+use Rattle.line_rules.proofs.Barred.{count_kept, name_kept, name_of}
+use Rattle.line_rules.proofs.OfKeyword.{is_of-other, numbered_there}
+
+-- ---- one line more
+
+names_kept : (rows more : List Statement) (ns : List ℕ) → All (λ n. n < length (rows_of Worker rows)) ns
+    → map (name_in Worker (rows ++ more)) ns ≡ map (name_in Worker rows) ns
+names_kept rows more [] within = refl
+names_kept rows more (n ∷ ns) within = λ i.
+    name_kept rows more Worker n (within 0 0 (omega arith)) i
+    ∷ names_kept rows more ns (λ k d lt. within (suc k) d (omega arith)) i
+
+kept : (rows more : List Statement) (names : List Word) (ns : List ℕ) → AreNumbersOf rows names ns
+    → AreNumbersOf (rows ++ more) names ns
+kept rows more names ns h = record {
+  within = All-weaker (λ n. n < length (rows_of Worker rows)) (λ n. n < length (rows_of Worker (rows ++ more)))
+      (count_kept rows more Worker) ns h.within;
+  named = names_kept rows more ns h.within ∙ h.named;
+}
+
+both : (rows : List Statement) (names others : List Word) (ns ms : List ℕ) → AreNumbersOf rows names ns
+    → AreNumbersOf rows others ms → AreNumbersOf rows (names ++ others) (ns ++ ms)
+both rows names others ns ms a b = record {
+  within = All-append (λ n. n < length (rows_of Worker rows)) ns ms a.within b.within;
+  named = map-append (name_in Worker rows) ns ms ∙ (λ i. a.named i ++ b.named i);
+}
+
+holders_more : (rows more : List Statement) → holders_in (rows ++ more) ≡ holders_in rows ++ holders_in more
+holders_more rows more =
+    ap (flat_map tail_words) (filter-append (is_of Split) rows more)
+    ∙ flat_map-append tail_words (rows_of Split rows) (rows_of Split more)
+
+-- a line that is not entered has no holders
+holders_entered : (s : Statement) → holders_in (entered_of s) ≡ holders_in (s ∷ [])
+holders_entered s = by (entering_of s.keyword) refl
+  where
+    none : (s.keyword ≡ Split → ⊥) → [] ≡ holders_in (s ∷ [])
+    none other = ap (λ b. flat_map tail_words (cond b (s ∷ []) [])) (sym (is_of-other Split s other))
+    by : (e : Entering) → entering_of s.keyword ≡ e → holders_in (entered_by e s) ≡ holders_in (s ∷ [])
+    by Nothing is = none (λ same. let e = sym (ap entering_of same) ∙ is in cc)
+    by InTurn is = none (λ same. let e = sym (ap entering_of same) ∙ is in cc)
+    by e is = refl
+
+-- a line is entered, with the numbers of its holders
+pub holders_of_entered : (rows : List Statement) (s : Statement) (ns ms : List ℕ) → AreHolders rows ns
+    → AreHoldersOf rows s ms → AreHolders (rows ++ entered_of s) (ns ++ ms)
+holders_of_entered rows s ns ms old new =
+    let names = holders_more rows (entered_of s) ∙ ap (λ ws. holders_in rows ++ ws) (holders_entered s) in
+    subst (λ ws. AreNumbersOf (rows ++ entered_of s) ws (ns ++ ms)) (sym names)
+    (kept rows (entered_of s) _ _ (both rows _ _ ns ms old new))
+
+-- ---- the words of a split's line
+
+abbrev split_line : List Word → Statement
+split_line ws = record { keyword = Split; words = ws }
+
+as_split : (s : Statement) → s.keyword ≡ Split → s ≡ split_line s.words
+as_split s same = λ i. record { keyword = same i; words = s.words }
+
+held_words : (rows : List Statement) (ws : List Word) → Meet Shape Split ws
+    → Keep Declared rows (split_line ws) → All (IsWorker rows) (drop 2 ws)
+held_words rows [] shape keep k d lt = absurd (omega arith)
+held_words rows (a ∷ []) shape keep k d lt = absurd (omega arith)
+held_words rows (a ∷ b ∷ ws) shape keep k d lt =
+    subst (IsWorker rows) (get_or_default ws k [] d lt)
+    (shape (suc (suc k)) (omega arith), keep (suc (suc k)) (omega arith))
+
+-- the holders of a split without a fault are workers
+pub fit_held : (rows : List Statement) (s : Statement) → IsShaped s → Keep Declared rows s → IsHeld rows s
+fit_held rows s shaped keep same =
+    let is = as_split s same in
+    subst (λ (t : Statement). All (IsWorker rows) (tail_words t)) (sym is)
+    (held_words rows s.words (subst (λ (t : Statement). Meet Shape t.keyword t.words) is shaped.shape)
+    (subst (Keep Declared rows) is keep))
+
+asked_words : (version : Version) (rows : List Statement) (ws : List Word) → All (IsWorker rows) (drop 2 ws)
+    → AreFit version rows (split_line (take 2 ws)) → AreFit version rows (split_line ws)
+asked_words version rows [] held fit i lt = fit i lt
+asked_words version rows (a ∷ []) held fit i lt = fit i lt
+asked_words version rows (a ∷ b ∷ ws) held fit zero lt = fit 0 (omega arith)
+asked_words version rows (a ∷ b ∷ ws) held fit (suc zero) lt = fit 1 (omega arith)
+asked_words version rows (a ∷ b ∷ ws) held fit (suc (suc i)) lt = held i [] (omega arith)
+
+-- where the holders are workers, the words before them are left to ask
+pub asked_fit : (version : Version) (rows : List Statement) (ws asked : List Word)
+    → All (IsWorker rows) (drop 2 ws) → asked ≡ take 2 ws → AreFit version rows (split_line asked)
+    → AreFit version rows (split_line ws)
+asked_fit version rows ws asked held is fit =
+    asked_words version rows ws held (subst (λ us. AreFit version rows (split_line us)) is fit)
+
+-- ---- words that are looked up in turn
+
+abbrev said : List (Bor (List ℕ)) → List Word
+said names = map (λ n. n.now) names
+
+-- with one name more
+said_more : (names : List (Bor (List ℕ))) (i : ℕ) (d : Bor (List ℕ)) → i < length names
+    → said (take (i + 1) names) ≡ said (take i names) ++ (get_or names i d).now ∷ []
+said_more names i d lt =
+    ap said (take_more names i d lt) ∙ map-append (λ n. n.now) (take i names) (get_or names i d ∷ [])
+
+pub numbers_more : (rows : List Statement) (names : List (Bor (List ℕ))) (i n : ℕ) (d : Bor (List ℕ))
+    (ns : List ℕ) → i < length names → AreNumbersOf rows (said (take i names)) ns
+    → HasNumber rows (Worker, (get_or names i d).now, []) n
+    → AreNumbersOf rows (said (take (i + 1) names)) (ns ++ n ∷ [])
+numbers_more rows names i n d ns lt before has =
+    let name : Word = (get_or names i d).now in
+    subst (λ ws. AreNumbersOf rows ws (ns ++ n ∷ [])) (sym (said_more names i d lt))
+    (both rows _ (name ∷ []) ns (n ∷ []) before (record {
+      within = All-cons (λ m. m < length (rows_of Worker rows)) n [] has.inside
+          (All-nil (λ m. m < length (rows_of Worker rows)));
+      named = ap (λ (w : Word). w ∷ []) (name_of Worker refl rows name n has);
+    }))
+
+pub workers_more : (rows : List Statement) (names : List (Bor (List ℕ))) (i : ℕ) (d : Bor (List ℕ))
+    → i < length names → All (IsWorker rows) (said (take i names)) → IsWorker rows (get_or names i d).now
+    → All (IsWorker rows) (said (take (i + 1) names))
+workers_more rows names i d lt before is =
+    subst (All (IsWorker rows)) (sym (said_more names i d lt))
+    (All-append (IsWorker rows) _ _ before (All-cons (IsWorker rows) _ [] is (All-nil (IsWorker rows))))
+
+pub one_worker : (rows : List Statement) (names : List (Bor (List ℕ))) (i : ℕ) (d : Bor (List ℕ))
+    → i < length names → All (IsWorker rows) (said names) → IsWorker rows (get_or names i d).now
+one_worker rows names i d lt all =
+    subst (IsWorker rows) (get_or-map (λ n. n.now) names i d d.now lt) (all i d.now (rw length-map lt))
+
+pub worker_numbered : (rows : List Statement) (w : Word) (o : Option ℕ) → 0 < length w
+    → MatchOption o (Contains (keys_of rows) (Worker, w, []) → ⊥) (HasNumber rows (Worker, w, []))
+    → MatchOption o (IsWorker rows w → ⊥) (λ n. IsWorker rows w × HasNumber rows (Worker, w, []) n)
+worker_numbered rows w None some none = λ is. none is.1
+worker_numbered rows w (Some n) some has = ((some, numbered_there rows (Worker, w, []) n has), has)
+
+-- the words behind the first two, as a slice has them
+pub behind_two : (k : Keyword) (ws : List (Bor (List ℕ))) (m : ℕ) → k ≡ Split → m ≡ min (length ws) 2
+    → said (take (length ws - m) (drop m ws)) ≡ tail_words (stated k ws)
+behind_two k ws m same is =
+    ap said (take_all (length ws - m) (drop m ws) (rw length-drop (omega arith)))
+    ∙ ap (λ n. said (drop n ws)) is ∙ by ws
+    ∙ ap (λ j. tail_words (stated j ws)) (sym same)
+  where
+    by : (us : List (Bor (List ℕ))) → said (drop (min (length us) 2) us) ≡ tail_words (stated Split us)
+    by [] = refl
+    by (a ∷ []) = refl
+    by (a ∷ b ∷ us) =
+        let two : min (length (a ∷ b ∷ us)) 2 ≡ 2 = omega arith in
+        ap (λ n. said (drop n (a ∷ b ∷ us))) two
