@@ -163,7 +163,7 @@ def run(asked: argparse.Namespace) -> None:
     """Runs the job on the cluster."""
     racks, planner = racks_of(asked.topology), planner_of(asked.planner, asked.check)
     planner = RarestFirst(planner) if asked.rarest_first else planner
-    is_chosen = asked.planner or asked.ahead or asked.rarest_first
+    is_chosen = asked.planner or asked.rarest_first
     with Client(asked.scheduler) as client:
         client.wait_for_workers(asked.workers)
         blocks = blocks_asked(client, asked, racks)

@@ -8,18 +8,24 @@ import signal
 from collections import Counter
 from pathlib import Path
 from random import Random
-from typing import Callable
+from types import SimpleNamespace
+from typing import Callable, Iterable, Optional, Union
 
 from trial import Count, Gate, Trial, judged, place_of, wait_first  # (which finds the packages)
 
-from mrjob_dask import Place, Placing, Planner
+from mrjob_dask import Place, Placing, Planner, Splits
 from mrjob_dask.ahead import Pace, Queues
+from mrjob_dask.calls import Look, Seen
+from mrjob_dask.masters import Session, Waves
+from mrjob_dask.pending import Pending, Split
 from mrjob_dask.place import Task, Tasks
-from mrjob_dask.planner import Plan, Split, Wave, wave_of
+from mrjob_dask.planner import Plan, Wave, distance, nearest, wave_of
 
+from reference_play import misplayed
 from words import index_lines, map_words
 
 Judge = Callable[[Planner, Wave], bool]
+TWELVE = {f"r{it // 3}.w{it:02}": place_of(f"r{it // 3}") for it in range(12)}  # workers in four racks
 
 
 def wave(slots: list[int], splits: int) -> Wave:
@@ -41,6 +47,7 @@ LENGTHS = [
     ([1, 0], 4, {"w1": [0.5]}, [2, 2]),
     ([1, 0], 4, {"w1": [9.0]}, [4, 0]),  # (it is late by eight, and may be so again)
     ([3, 0], 1, {}, [3, 0]),
+    ([0, 0], 3, {}, [0, 0]),
 ]
 
 
@@ -49,14 +56,14 @@ def lengths(count: Count) -> None:
     for slots, splits, running, wanted in LENGTHS:
         pace = Pace()
         pace.note("w0", 1.0)
-        found = [*Queues(Planner(), pace).lengths(wave(slots, splits), running).values()]
+        found = [*pace.lengths(wave(slots, splits), running).values()]
         says = f"queues over slots {slots}, {splits} splits and calls {running} have {wanted} places"
         count.holds(says, found == wanted, found)
     slow = Pace()
     for seconds, worker in ((1.0, "w0"), (4.0, "w1")):
         for _ in range(16):
             slow.note(worker, seconds)
-    found = [*Queues(Planner(), slow).lengths(wave([1, 1], 6), {}).values()]
+    found = [*slow.lengths(wave([1, 1], 6), {}).values()]
     count.holds("a slow worker has a short queue", found == [5, 1], found)  # (of 1.3 and 3.7 seconds)
 
 
@@ -145,32 +152,92 @@ def phases(planner: Planner, misplanned: Judge, count: Count) -> None:
     count.holds("40 made phases ahead: each plan is best for its queues, by the reference", plans > 40 and not bad, bad)
 
 
-def saved(planner: Planner, count: Count) -> None:
+class Laid(Splits):
+    """72 splits of a byte, each on three of twelve workers."""
+
+    def __init__(self, rnd: Random) -> None:
+        super().__init__()
+        self.held = {f"s{it}": rnd.sample([*TWELVE], 3) for it in range(72)}
+        self.bytes = dict.fromkeys(self.held, 1)
+
+    def holders(self, split: str, look: Look) -> list[str]:
+        return self.held[split]
+
+
+def session_of(program: str, splits: Splits, workers: Iterable[str], pace: Optional[Pace]) -> Session:
+    """A live master over workers with a slot each, whose addresses are their names."""
+    places, names = {it: place_of(it) for it in workers}, {it: it for it in workers}
+    seen = Look({it: Seen(it, 1, 1, 0) for it in workers}, [], {})
+    return Session([program], seen, places, names, splits, 1, [], pace)
+
+
+def saved(planner: Planner, program: str, count: Count) -> None:
     """Six blocks for each of twelve workers, by a made clock: what is carried ahead, and by waves."""
-    ahead, waves = ([one_clock(planner, seed, it) for seed in range(2)] for it in (True, False))
-    count.holds("by a made clock 144 blocks carry less ahead than by waves", sum(ahead) < sum(waves), ahead, waves)
+    masters = {
+        "a planner's waves": lambda splits, pace: Waves(planner, None),
+        "a planner ahead": lambda splits, pace: Waves(planner, Queues(planner, pace)),
+        "a master's waves": lambda splits, pace: session_of(program, splits, TWELVE, None),
+        "a master ahead": lambda splits, pace: session_of(program, splits, TWELVE, pace),
+    }
+    carried = Counter()
+    for seed in range(2):
+        for says, master_of in masters.items():
+            splits, pace = Laid(Random(seed)), Pace()
+            master = master_of(splits, pace)
+            carried[says] += one_clock(master, splits, pace, seed)
+            master.close()
+        judged_ahead(master, "72 splits ahead by a made clock", count)
+    for says in ("a planner", "a master"):
+        is_so = carried[f"{says} ahead"] < carried[f"{says}'s waves"]
+        count.holds(f"by a made clock 144 blocks carry less ahead than by waves, by {says}", is_so, carried)
 
 
-def one_clock(planner: Planner, seed: int, is_ahead: bool) -> int:
-    """The steps that 72 equal blocks go."""
-    rnd = Random(seed)
-    places = {f"r{it // 3}.w{it}": place_of(f"r{it // 3}.w{it}") for it in range(12)}
-    waits = {f"s{it}": Split(1, rnd.sample([*places], 3), []) for it in range(72)}
-    takes = {it: rnd.uniform(0.85, 1.15) for it in waits}
-    queues, runs, steps = Queues(planner, Pace()), [], 0
-    now = 0.0
-    while waits or runs:
-        busy = {it[1] for it in runs}
-        wave = wave_of(places, {it: int(it not in busy) for it in places}, waits)
-        running = {it[1]: [now - it[3]] for it in runs}
-        starts = queues.starts(wave, running) if is_ahead else planner.plan(wave).starts
-        for split, worker in starts.items():
-            held = waits.pop(split).holders
-            steps += min(0 if it == worker else 2 if places[it] == places[worker] else 4 for it in held)
-            heapq.heappush(runs, (now + takes[split], worker, split, now))
-        now, worker, split, began = heapq.heappop(runs)
-        queues.pace.note(worker, now - began)
+def judged_ahead(master: Session, says: str, count: Count) -> None:
+    """Judges a session that ended before its part was started, whose plans are all ahead."""
+    script, report = ("".join(f"{line}\n" for line in it).encode() for it in (master.script, master.report))
+    wrong = misplayed(script, report, 1)
+    is_so = wrong is None and "wave" not in master.script
+    count.holds(f"{says}: it is a legal history, each plan best for its queues, by the reference", is_so, wrong)
+
+
+def one_clock(master: Union[Session, Waves], splits: Splits, pace: Pace, seed: int) -> int:
+    """The steps that 72 equal blocks go, whose calls take 15 % more or less than a second."""
+    rnd, pending, runs, steps = Random(seed), Pending(TWELVE, {it: at for at, it in enumerate(splits.bytes)}), [], 0
+    takes, now = {it: rnd.uniform(0.85, 1.15) for it in splits.bytes}, 0.0
+    for it, size in splits.bytes.items():
+        pending.put(it, Split(size, splits.held[it], []))
+    while pending or runs:
+        busy = {it[1]: [now - it[2]] for it in runs}
+        for it in master.wave(pending, {at: int(at not in busy) for at in TWELVE}, busy) if pending else ():
+            steps += distance(TWELVE, it.worker, nearest(TWELVE, it.worker, pending[it.split].holders))
+            pending.drop(it.split)
+            heapq.heappush(runs, (now + takes[it.split], it.worker, now, it.attempt))
+        now, worker, began, told = heapq.heappop(runs)
+        pace.note(worker, now - began)
+        master.tell_done([SimpleNamespace(told=told)])
     return steps
+
+
+def waiting(program: str, count: Count) -> None:
+    """By a live master a split waits for its busy holder, without a question that was asked before, and starts elsewhere
+    once that is late."""
+    splits, pace = Laid(Random(1)), Pace()
+    splits.held = {it: ["r.a"] for it in ("s", "t")}
+    splits.bytes = dict.fromkeys(splits.held, 1)
+    pending = Pending({it: place_of(it) for it in ("r.a", "r.b")}, {"s": 0, "t": 1})
+    master, seen = session_of(program, splits, pending.places, pace), []
+    for it in splits.held:
+        pending.put(it, Split(1, ["r.a"], []))
+    pace.note("r.a", 1.0)
+    for free, seconds in ((1, 0.0), (0, 0.95), (0, 0.95), (0, 3.0)):
+        starts = master.wave(pending, {"r.a": free, "r.b": int(seconds > 0)}, {} if free else {"r.a": [seconds]})
+        for it in starts:
+            pending.drop(it.split)
+        seen.append(([(it.split, it.worker) for it in starts], sum(it.startswith("ahead") for it in master.script)))
+    wanted = [([("s", "r.a")], 1), ([], 2), ([], 2), ([("t", "r.b")], 3)]
+    count.holds("by a live master a split waits for its holder, until that is late", seen == wanted, seen)
+    master.close()
+    judged_ahead(master, "a split that waits", count)
 
 
 # ---- on a cluster ----
@@ -191,14 +258,14 @@ def backups(trial: Trial, count: Count, sort: str) -> None:
         job = trial.job(blocks, Gate(room), set(), lambda job: None)
         job.work, job.backup = job.work._replace(map=mapped), 0.0
         lines = index_lines(job.run())
-    says = f"{sort}, a map without end"
+    says = f"{sort}{trial.how()}, a map without end"
     count.holds(f"{says}: the index is that of the reference", lines == trial.wanted)
     ends = [it.end for it in job.attempts if it.split == slow]
     count.holds(f"{says}: of its two attempts one is done, and one is late", sorted(ends) == ["done", "late"], ends)
-    kinds = [it for it in job.told() if it in ("wave", "backup")]
+    is_second = [it.wave == 0 for it in job.attempts]
     again = Counter(it.split for it in job.attempts).most_common(1)[0][1]
-    is_last = kinds == sorted(kinds, reverse=True)
-    count.holds(f"{says}: no second attempt starts while splits wait, and no third", is_last and again == 2, kinds)
+    is_so = is_second == sorted(is_second) and again == 2
+    count.holds(f"{says}: no second attempt starts while splits wait, and no third", is_so, is_second)
     # (where no other worker has a free slot, the second attempt runs on the first one's source, and reads elsewhere)
     (worker, source), (other, elsewhere) = where = [(it.worker, it.source) for it in job.attempts if it.split == slow]
     is_else = other != worker and elsewhere not in (worker, source)

@@ -14,7 +14,7 @@ from mrjob_dask.calls import look, piece_key, sent
 from mrjob_dask.planner import distance
 
 from cluster import Cluster, until
-from test_ahead import backups, stopped
+from test_ahead import Kept, backups, stopped
 from test_faults import faults
 from test_place import placed
 from words import index_lines
@@ -43,7 +43,7 @@ def undisturbed(trial: Trial, count: Count, sort: str) -> None:
     places = {address: place_of(name) for name, address in trial.here.addresses().items()}
     steps = sum(size * distance(places, a, b) for _, a, b, size in (carried(trial, blocks) - before).elements())
     planned = sum(it.cost for it in job.waves)
-    sort += ", ahead" * trial.is_ahead
+    sort += trial.how()
     count.holds(f"{sort}: the index is that of the reference", lines == trial.wanted)
     count.holds(f"{sort}: what was carried, by distance, is what was planned", steps == planned > 0, steps, planned)
     count.holds(f"{sort}: each block starts once", len(job.attempts) == len(blocks.pieces) == len(job.ended("done")))
@@ -101,7 +101,7 @@ def death(trial: Trial, count: Count, sort: str, when: str) -> None:
         job = trial.job(blocks, gate, closed, step, when == "reduces")
         lines = index_lines(job.run())
     seen = look(trial.here.client, keys=blocks.keys(blocks.pieces))
-    says = f"{sort}{', ahead' * trial.is_ahead}, a death at {when}"
+    says = f"{sort}{trial.how()}, a death at {when}"
     count.holds(f"{says}: the index is that of the reference", lines == trial.wanted)
     gone = [*job.ended("lost"), *job.ended("failed")]
     own = [it for it in gone if job.names[it.worker] == killed[0]]
@@ -245,10 +245,12 @@ def jobs(planner: Planner, count: Count, more: Callable[[Trial, Count], None]) -
                 death(trial, count, sort, when)
             backups(trial, count, sort)
         trial.is_ahead = True
-        for sort, when in (("files", "a running map"), ("keys", "a done map")):
-            undisturbed(trial, count, sort)
-            death(trial, count, sort, when)
-        trial.is_ahead = False
+        for trial.planner in (planner, Kept(planner)):  # (whose program's session decides, and which is asked itself)
+            for sort, when in (("files", "a running map"), ("keys", "a done map")):
+                undisturbed(trial, count, sort)
+                death(trial, count, sort, when)
+            backups(trial, count, "files")
+        trial.is_ahead, trial.planner = False, planner
         stopped(trial, count)
         lost_file(trial, count)
         lost_files(trial, count)

@@ -32,7 +32,7 @@ from mrjob_dask.planner import Plan, Split, Wave, wave_of
 
 import reference_check
 from reference_play import misplayed
-from test_ahead import anew, lengths, phases, saved
+from test_ahead import anew, lengths, phases, saved, waiting
 from test_faults import without_scheduler
 from test_jobs import jobs
 from test_pending import candidates, edge, many, many_blocks
@@ -338,7 +338,8 @@ def main() -> int:
     lengths(count)
     anew(planner, count)
     phases(planner, misplanned, count)
-    saved(planner, count)
+    saved(planner, program, count)
+    waiting(program, count)
     candidates(planner, misplanned, count)
     for says, it in {"by the program": Command(f"{program} plan", True), "by the library": library}.items():
         if it:

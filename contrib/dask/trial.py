@@ -18,6 +18,7 @@ from mrjob_dask import Files, Job, Keys, Place, Planner, Row, Work
 from mrjob_dask.calls import Piece, look
 from mrjob_dask.keys import as_hdfs
 from mrjob_dask.masters import Attempt
+from mrjob_dask.planner import program_of
 
 import reference_run
 from reference_play import misplayed
@@ -139,11 +140,14 @@ class Watched(Job):
 
 
 def judged(job: Watched, count: Count, says: str) -> None:
-    """The reference for scripts finds each event legal, and each wave best in its state, where a session decides."""
+    """The reference for scripts finds each event legal, and each wave or plan ahead best in its state, where a session
+    decides."""
     if job.program:
         script, report = ("".join(f"{line}\n" for line in it).encode() for it in job.history())
-        wrong = misplayed(script, report, 0)
-        count.holds(f"{says}: it is a legal history, each wave best, by the reference", wrong is None, wrong)
+        wrong, kinds = misplayed(script, report, 0), {*job.told()} & {"wave", "ahead"}
+        count.holds(f"{says}: it is a legal history, each plan best, by the reference", wrong is None, wrong)
+        count.holds(f"{says}: all its plans are {'plans ahead' if job.is_ahead else 'waves'}",
+                    kinds == {"ahead" if job.is_ahead else "wave"}, kinds)
 
 
 class Trial:
@@ -190,6 +194,10 @@ class Trial:
         self.rest()
         work = Work(gate.map(closed), gate.reduce() if is_reduce_gated else reduce_words, PARTS)
         return Watched(client, blocks, work, place_of, self.planner, grace=0, step=step, ahead=self.is_ahead)
+
+    def how(self) -> str:
+        """How jobs are planned, if not wave by wave by a session."""
+        return f", ahead{' by a planner' * (not program_of(self.planner))}" * self.is_ahead
 
     def rest(self) -> None:
         """Waits until no worker has a task."""

@@ -6,6 +6,7 @@ from how long calls took, and of that nothing is proved.
 """
 from __future__ import annotations
 
+from bisect import bisect
 from collections import Counter, defaultdict
 from typing import Mapping, Sequence
 
@@ -37,6 +38,20 @@ class Pace:
     def mean_on(self, worker: str, mean: float) -> float:
         """That of a worker, where the mean of all is given."""
         return (WEIGHT * mean + self.seconds.get(worker, 0)) / (WEIGHT + self.count[worker])
+
+    def lengths(self, wave: Wave, running: Mapping[str, Sequence[float]]) -> dict[str, int]:
+        """How many places the queue of each worker has: those that end about as soon as all splits could be done. A
+        call that has run longer than the mean goes on for as long as it is late."""
+        mean = self.mean(max((it for its in running.values() for it in its), default=1.0))
+        ends = {}
+        for worker, free in wave.slots.items():
+            each = self.mean_on(worker, mean)
+            begins = [0.0] * free + [max(abs(each - it), LEAST * each) for it in running.get(worker, ())]
+            first = sorted(begins)[:PLACES]
+            ends[worker] = sorted(it + nth * each for it in first for nth in range(1, PLACES + 1))[:PLACES]
+        whole = sorted(it for its in ends.values() for it in its)
+        last = max(whole[: len(wave.splits)], default=0.0) + SLACK * mean
+        return {worker: max(free, bisect(ends[worker], last)) for worker, free in wave.slots.items()}
 
 
 class Queues:
@@ -80,7 +95,7 @@ class Queues:
         start on a holder later: of whose other holders even the one with the fewest splits has many."""
         self.plans += 1
         self.queues = {worker: [] for worker in wave.places}
-        starts = self.planner.plan(wave._replace(slots=self.lengths(wave, running))).starts
+        starts = self.planner.plan(wave._replace(slots=self.pace.lengths(wave, running))).starts
         load = Counter(holder for it in wave.splits.values() for holder in it.holders)
 
         def order(split: str, worker: str, it: Split) -> tuple[int, float]:
@@ -89,16 +104,3 @@ class Queues:
 
         for split in sorted(starts, key=lambda split: order(split, starts[split], wave.splits[split])):
             self.queues[starts[split]].append(split)
-
-    def lengths(self, wave: Wave, running: Mapping[str, Sequence[float]]) -> dict[str, int]:
-        """How many places each worker has: those that end about as soon as all splits could be done. A call that has
-        run longer than the mean goes on for as long as it is late."""
-        mean = self.pace.mean(max((it for its in running.values() for it in its), default=1.0))
-        ends = {}
-        for worker, free in wave.slots.items():
-            each = self.pace.mean_on(worker, mean)
-            begins = [0.0] * free + [max(abs(each - it), LEAST * each) for it in running.get(worker, ())]
-            ends[worker] = sorted(begin + nth * each for begin in begins for nth in range(1, PLACES + 1))[:PLACES]
-        whole = sorted(it for its in ends.values() for it in its)
-        last = whole[min(len(whole), len(wave.splits)) - 1] + SLACK * mean
-        return {worker: max(free, sum(it <= last for it in ends[worker])) for worker, free in wave.slots.items()}

@@ -62,8 +62,8 @@ def reduce_task(work: Work) -> Callable[[list[bytes]], Any]:
 
 class Job(Placing):
     """A job over blocks, which are read where their maps are put. A session of the program `mrjob` decides all of it;
-    a planner goes wave by wave in its place where `planner` is none of the program's, with `ahead`, and where there is
-    no program or a session has no room for the job."""
+    a planner is asked in its place where `planner` is none of the program's, and where there is no program or a session
+    has no room for the job."""
 
     def __init__(
         self,
@@ -78,7 +78,7 @@ class Job(Placing):
         backup: Optional[float] = None,
     ) -> None:
         super().__init__(client, blocks, racks, planner, grace, step, ahead, backup)
-        self.program = [] if ahead else program_of(planner)
+        self.program, self.is_ahead = program_of(planner), ahead
         self.blocks, self.work = blocks, work
         self.tasks: dict[Callable[..., Any], Callable[..., list[bytes]]] = {}
         self.part_key, self.reduce_key = f"mrjob-part{self.mark}", f"mrjob-reduce{self.mark}"
@@ -100,7 +100,7 @@ class Job(Placing):
 
     def history(self) -> Optional[tuple[list[str], list[str]]]:
         """The script of the session, the last one if there were several, and its report, as `mrjob play` writes it;
-        nothing where a planner went wave by wave."""
+        nothing where a planner was asked."""
         return (self.master.script, self.master.report) if isinstance(self.master, Session) else None
 
     def call(self, split: str, worker: str, source: str) -> Call:
@@ -126,7 +126,8 @@ class Job(Placing):
         for attempt in self.going:
             attempt.told = 0
         told = [it for it in self.maps.values() if it.worker in places]
-        session = Session(self.program, seen, places, self.names, self.blocks, self.work.parts, told)
+        pace = self.pace if self.is_ahead else None
+        session = Session(self.program, seen, places, self.names, self.blocks, self.work.parts, told, pace)
         self.master.close()
         self.master, self.waiting, self.alive = session, [], {*places}
         self.reduces = {part: (0, future) for part, (_, future) in self.reduces.items()}

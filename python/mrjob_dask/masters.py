@@ -10,15 +10,15 @@ import re
 import time
 from contextlib import suppress
 from dataclasses import dataclass, field
-from typing import Iterable, Mapping, Optional, Sequence, TypeVar
+from typing import Iterable, Mapping, Optional, Sequence, TypeVar, Union
 
 from distributed import Future
 from mrjob_plan import Cluster, Worker, calls
 from mrjob_plan import Split as Declared
-from mrjob_plan.calls import QUERIES, Call, Ignored, Reduce, Start
+from mrjob_plan.calls import QUERIES, Ahead, Call, Ignored, Reduce, Start, Wave
 from mrjob_plan.master import Master, MasterEnded
 
-from .ahead import Queues
+from .ahead import Pace, Queues
 from .blocks import Splits
 from .calls import Look
 from .pending import Pending, Place
@@ -88,14 +88,14 @@ def fit(name: str) -> str:
 
 class Session:
     """A live master of splits, of parts, and of the workers that are there as it begins, which are known again by their
-    names. It knows nothing of other workers, nor of what else runs on its own."""
+    names. It knows nothing of other workers, nor of what else runs on its own. By a pace it plans ahead."""
 
     def __init__(
         self, program: Sequence[str], seen: Look, places: Mapping[str, Place], names: Mapping[str, str], splits: Splits,
-        parts: int, told: Sequence[Attempt],
+        parts: int, told: Sequence[Attempt], pace: Optional[Pace],
     ) -> None:
         wave_of({**places}, {}, {})  # (which refuses too many workers, in words)
-        self.names = names  # of workers, by their addresses
+        self.names, self.pace = names, pace  # names of workers, by their addresses
         order = sorted(places, key=lambda it: names[it])
         self.workers = {names[at]: fit(f"w{number}-{names[at]}") for number, at in enumerate(order)}
         self.splits = {split: fit(f"s{number}-{split}") for number, split in enumerate(splits.bytes)}
@@ -138,7 +138,7 @@ class Session:
         answer = self.master.tell(call.line)
         if call.line not in QUERIES:
             self.note(call.line, answer)
-            self.is_kept = self.is_kept and call.line.startswith(("wave", "reduce", "add"))
+            self.is_kept = self.is_kept and call.line.startswith(("wave", "ahead", "reduce", "add"))
         return call.answered(answer)
 
     def tell_done(self, attempts: Sequence[Attempt]) -> None:
@@ -165,21 +165,32 @@ class Session:
     def wave(
         self, pending: Pending, slots: Mapping[str, int], running: Mapping[str, Sequence[float]]
     ) -> list[Start]:
-        """What starts, if there is news. A split that failed everywhere may start again in a new session."""
+        """What starts, if there is news, or other places to plan ahead onto and a free slot. A split that failed
+        everywhere may start again in a new session."""
         for split in pending.changed:
             self.hold(split, pending.holders(split))
         pending.changed.clear()
         self.outs = {*pending.outs} if self.outs is None else self.outs
         self.is_worn = self.is_worn or not pending.outs <= self.outs
-        if not self.has_news:
+        call = self.planned(pending, slots, running)
+        if not self.has_news and (call.line == self.script[-1] or not any(slots.values())):
             return []
-        starts = [*map(self.start, self.tell(calls.wave()).starts)]
+        starts = [*map(self.start, self.tell(call).starts)]
         self.has_news = False
         # (the master of a new session is told of failures as it comes to them)
         again = [it for it in starts if it.worker in pending[it.split].barred]
         for it in again:
             self.tell(calls.fail(it.attempt))
         return [it for it in starts if it not in again]
+
+    def planned(
+        self, pending: Pending, slots: Mapping[str, int], running: Mapping[str, Sequence[float]]
+    ) -> Call[Union[Wave, Ahead]]:
+        """A wave, or a plan ahead, which is made anew whenever slots free: what a plan does not start is not kept."""
+        if not self.pace:
+            return calls.wave()
+        places = self.pace.lengths(wave_of(pending.places, slots, pending), running)
+        return calls.ahead(places.get(at, 0) for at in self.addresses.values())
 
     def hold(self, split: str, holders: Sequence[str]) -> None:
         """Lets the master know the holders of a split, as far as they are workers of its own."""

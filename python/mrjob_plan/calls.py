@@ -12,7 +12,7 @@ from typing import Callable, Generic, Hashable, Iterable, List, Mapping, Sequenc
 from .clusters import Cluster, Prices, Split, items
 from .faults import CONDITIONS
 
-T = TypeVar("T")
+T = TypeVar("T", covariant=True)
 NamedPrices = Prices[Mapping[str, int], Mapping[str, int]]
 
 REASONS = {
