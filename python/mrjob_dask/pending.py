@@ -4,6 +4,8 @@ from __future__ import annotations
 from bisect import bisect_left, insort
 from collections import defaultdict
 from heapq import merge
+from itertools import groupby
+from operator import itemgetter
 from typing import Iterable, Iterator, Mapping, NamedTuple, Optional, Sequence, Union
 
 
@@ -59,15 +61,19 @@ class Tree:
             its = self.at[node]
             del its[bisect_left(its, (size, number))]
 
-    def cheapest(self, worker: str) -> Iterator[int]:
-        """The numbers of all splits, those first that cost the least on a worker. Some come more than once."""
+    def cheapest(self, worker: str) -> Iterable[tuple[int, int]]:
+        """What all splits cost on a worker, with their numbers, the cheapest first. Some come more than once."""
 
         def priced(node: Node, steps: int) -> Iterator[tuple[int, int]]:
             return ((steps * size, number) for size, number in self.at.get(node, ()))
 
         rack = self.places[worker]
         nodes: list[tuple[Node, int]] = [(EVERYWHERE, 0), (worker, 0), (rack, 2), ((rack.centre,), 4), ((), 6)]
-        return (number for _, number in merge(*(priced(*it) for it in nodes)))
+        return merge(*(priced(*it) for it in nodes))
+
+    def rarity(self, holders: Sequence[str]) -> int:
+        """How many splits even the holder with the fewest of them has, besides those that all workers hold."""
+        return min(map(len, map(self.at.__getitem__, holders)))
 
 
 class Pending(dict[str, Split]):
@@ -112,26 +118,37 @@ class Pending(dict[str, Split]):
         """The holders of a pending split."""
         return self[name].holders if name in self else []
 
-    def candidates(self, slots: Mapping[str, int]) -> dict[str, Split]:
+    def candidates(self, slots: Mapping[str, int], is_rarest_first: bool = False) -> dict[str, Split]:
         """The splits that a plan has to know of: for each worker with a free slot the cheapest ones, as many as there
         are free slots. A best plan of these is a best one of all: where a plan starts another split on a worker, one of
-        the worker's candidates does not start, and could in its place, for no more."""
+        the worker's candidates does not start, and could in its place, for no more. They come by number, or the rarest
+        first, and of those that cost the same the first are taken."""
         free = [worker for worker, number in slots.items() if number]
         most = sum(slots.values())
-        if most * len(free) >= len(self):
+        if most * len(free) >= len(self) and not is_rarest_first:
             return self
         if self.tree is None:
             self.tree = Tree(self.places)
             self.tree.fill((it.bytes, self.number[name], it.holders) for name, it in self.items())
-        found = {number for worker in free for number in self.first(worker, self.tree.cheapest(worker), most)}
-        return {self.names[it]: self[self.names[it]] for it in sorted(found)}
+        found = {number for worker in free for number in self.first(worker, most, is_rarest_first)}
+        order = self.rarest_first(found) if is_rarest_first else sorted(found)
+        return {self.names[it]: self[self.names[it]] for it in order}
 
-    def first(self, worker: str, numbers: Iterable[int], most: int) -> set[int]:
+    def first(self, worker: str, most: int, is_rarest_first: bool) -> set[int]:
         """The first splits that may start on a worker, at most so many."""
+        assert self.tree
         found: set[int] = set()
-        for number in numbers:
-            if worker not in self[self.names[number]].barred:
-                found.add(number)
-                if len(found) == most:
-                    break
+        for _, priced in groupby(self.tree.cheapest(worker), itemgetter(0)):
+            same = (number for _, number in priced)
+            for number in self.rarest_first(same) if is_rarest_first else same:
+                if worker not in self[self.names[number]].barred:
+                    found.add(number)
+                    if len(found) == most:
+                        return found
         return found
+
+    def rarest_first(self, numbers: Iterable[int]) -> list[int]:
+        """Splits in the order of how hard it is to start them on a holder later."""
+        assert self.tree
+        rarity = self.tree.rarity
+        return sorted(sorted({*numbers}), key=lambda it: -rarity(self[self.names[it]].holders))

@@ -137,6 +137,9 @@ class RarestFirst(Planner):
         self.planner = planner
 
     def plan(self, wave: Wave) -> Plan:
+        if isinstance(wave.splits, Pending):
+            splits = first_splits(wave.splits.candidates(wave.slots, is_rarest_first=True), wave.slots)
+            return self.planner.plan(wave_of_few(wave, splits))
         splits = first_splits(wave.splits, wave.slots)
         load = Counter(holder for split in splits.values() for holder in split.holders)
         order = sorted(splits, key=lambda it: -min(load[holder] for holder in splits[it].holders))
