@@ -219,7 +219,7 @@ def one_clock(master: Union[Session, Waves], splits: Splits, pace: Pace, seed: i
 
 
 def waiting(program: str, count: Count) -> None:
-    """By a live master a split waits for its busy holder, without a question that was asked before, and starts elsewhere
+    """By a live master a split waits for its busy holder, about which no plan is asked for twice, and starts elsewhere
     once that is late."""
     splits, pace = Laid(Random(1)), Pace()
     splits.held = {it: ["r.a"] for it in ("s", "t")}

@@ -63,7 +63,7 @@ def paused(trial: Trial, count: Count, sort: str) -> None:
         job.grace = 1e9
         lines = index_lines(job.run())
     set_worker(trial, job.names[at[0]], Status.running, 0)
-    says = f"{sort}, a paused worker"
+    says = f"{sort}{trial.how()}, a paused worker"
     count.holds(f"{says}: the index is that of the reference", lines == trial.wanted)
     kinds = {*job.told()} & {"die", "join", "withdraw", "fail"}
     count.holds(f"{says}: nothing is lost, and each block starts once",
@@ -350,10 +350,11 @@ def joins(trial: Trial, count: Count, sort: str) -> None:
 
         job = trial.job(blocks, gate, {pieces[0] for pieces in blocks.pieces.values()}, step)
         lines = index_lines(job.run())
+    says = f"{sort}{trial.how()}, a worker that comes"
     steps = {it.steps for it in job.attempts if job.names[it.worker] == name}
-    count.holds(f"{sort}, a worker that comes: the index is that of the reference", lines == trial.wanted)
-    count.holds(f"{sort}, a worker that comes: it maps blocks of other racks", 4 in steps <= {0, 4}, steps)
-    judged(job, count, f"{sort}, a worker that comes")
+    count.holds(f"{says}: the index is that of the reference", lines == trial.wanted)
+    count.holds(f"{says}: it maps blocks of other racks", 4 in steps <= {0, 4}, steps)
+    judged(job, count, says)
     trial.here.kill(name)
 
 

@@ -15,7 +15,7 @@ from mrjob_dask.planner import distance
 
 from cluster import Cluster, until
 from test_ahead import Kept, backups, stopped
-from test_faults import faults
+from test_faults import faults, joins, paused
 from test_place import placed
 from words import index_lines
 
@@ -250,7 +250,10 @@ def jobs(planner: Planner, count: Count, more: Callable[[Trial, Count], None]) -
                 undisturbed(trial, count, sort)
                 death(trial, count, sort, when)
             backups(trial, count, "files")
-        trial.is_ahead, trial.planner = False, planner
+            joins(trial, count, "keys")
+        trial.planner = planner
+        paused(trial, count, "files")
+        trial.is_ahead = False
         stopped(trial, count)
         lost_file(trial, count)
         lost_files(trial, count)

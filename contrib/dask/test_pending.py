@@ -1,6 +1,7 @@
 """Waves of many splits: what a plan has to know of them, and how many a wave and a session take."""
 from __future__ import annotations
 
+from collections import Counter
 from random import Random
 from typing import Callable, Iterable
 
@@ -10,7 +11,7 @@ from mrjob_dask import Files, Job, Place, Placing, Planner, Row, Work
 from mrjob_dask.masters import Session
 from mrjob_dask.pending import Pending, Split
 from mrjob_dask.place import Task, Tasks
-from mrjob_dask.planner import Wave, wave_of
+from mrjob_dask.planner import Wave, distance, nearest, wave_of
 
 Judge = Callable[[Planner, Wave], bool]
 MOST = 131_072
@@ -46,7 +47,7 @@ def candidates(planner: Planner, misplanned: Judge, count: Count) -> None:
     waves = [some_pending(Random(seed)) for seed in range(300)]
     few = sum(len(it.splits.candidates(it.slots)) < len(it.splits) for it in waves)
     wrong = [seed for seed, it in enumerate(waves) if misplanned(planner, it)]
-    says = "300 made sets of pending splits: each plan is best of all, by the reference"
+    says = f"300 made sets of pending splits, {type(planner).__name__}: each plan is best of all, by the reference"
     count.holds(says, few > 150 and not wrong, few, wrong)
 
 
@@ -67,6 +68,23 @@ def pending_of(places: dict[str, Place], splits: Iterable[Split]) -> Pending:
     for name, split in zip(pending.names, splits):
         pending.put(name, split)
     return pending
+
+
+def rarest(count: Count) -> None:
+    """The candidates of which the rarest come first, by their definition."""
+    wrong = []
+    for seed in range(300):
+        places, slots, pending = some_pending(Random(seed))
+        load = Counter(at for it in pending.values() for at in it.holders)
+        order = sorted(pending, key=lambda it: (-min(load[at] for at in pending[it].holders), pending.number[it]))
+        found = set()
+        for worker in (it for it, free in slots.items() if free):
+            steps = lambda it: distance(places, nearest(places, worker, pending[it].holders), worker)
+            may = [it for it in order if worker not in pending[it].barred]
+            found |= {*sorted(may, key=lambda it: steps(it) * pending[it].bytes)[: sum(slots.values())]}
+        wrong += [seed] * ([*pending.candidates(slots, True)] != [it for it in order if it in found])
+    says = "300 made sets of pending splits: the candidates are the cheapest, and of equal ones the rarest"
+    count.holds(says, not wrong, wrong)
 
 
 def many(planner: Planner, says: str, count: Count) -> None:

@@ -35,7 +35,7 @@ from reference_play import misplayed
 from test_ahead import anew, lengths, phases, saved, waiting
 from test_faults import without_scheduler
 from test_jobs import jobs
-from test_pending import candidates, edge, many, many_blocks
+from test_pending import candidates, edge, many, many_blocks, rarest
 from test_place import planners, racks
 from words import blocks_of, index_lines, map_words, reduce_words
 
@@ -205,13 +205,13 @@ def index(trial: Trial, *asked: str) -> tuple[str, str, int]:
     return ran.stdout, ran.stderr, ran.returncode
 
 
-def reported(trial: Trial, count: Count, by: str, planner: str) -> list[dict]:
+def reported(trial: Trial, count: Count, by: str, planner: str, *more: str) -> list[dict]:
     """What index.py reports over a folder by a planner; its index is that which `mrjob run` gives as well."""
     report, out, told = (trial.here.disk(f"{name}-{by}") for name in ("report", "index", "history"))
     says, room = f"index.py FOLDER by {by}", trial.here.disk("folder")
     trial.rest()
     ended = index(trial, str(room), "--planner", planner, "--check", "--block", str(5000), "--parts", "3",
-                  "--report", str(report), "--out", str(out), "--history", str(told))
+                  "--report", str(report), "--out", str(out), "--history", str(told), *more)
     count.holds(f"{says} ends well", (ended[0], ended[2]) == ("", 0), ended)
     lines = out.read_text().splitlines() if out.exists() else []
     count.holds(f"{says}: the index is that of the reference", lines == trial.wanted)
@@ -221,9 +221,11 @@ def reported(trial: Trial, count: Count, by: str, planner: str) -> list[dict]:
     adds_up = cost == whole["cost"] == sum(row["cost"] for row in rows[:-1] if "cost" in row)
     total = sum(len(text) for _, text in trial.documents)
     count.holds(f"{says}: its report adds up", adds_up and sum(row["bytes"] for row in starts) == total, whole)
-    if by == "plan":
-        wrong = misplayed(Path(f"{told}.txt").read_bytes(), Path(f"{told}.out").read_bytes(), 0)
-        count.holds(f"{says}: it is a legal history, each wave best, by the reference", wrong is None, wrong)
+    if by != "library":
+        script, played = (Path(f"{told}.{it}").read_bytes() for it in ("txt", "out"))
+        wrong = misplayed(script, played, 0)
+        is_so = wrong is None and (b"\nahead " in script) == ("--ahead" in more)
+        count.holds(f"{says}: it is a legal history, each plan best, by the reference", is_so, wrong)
     return rows
 
 
@@ -233,6 +235,7 @@ def command(program: str, library: Optional[Planner], trial: Trial, count: Count
     room.mkdir()
     for name, text in trial.documents:
         (room / name).write_bytes(text)
+    reported(trial, count, "plan ahead", f"{program} plan", "--ahead")
     rows = reported(trial, count, "plan", f"{program} plan")
     if library:
         others = reported(trial, count, "library", "library")
@@ -340,7 +343,9 @@ def main() -> int:
     phases(planner, misplanned, count)
     saved(planner, program, count)
     waiting(program, count)
-    candidates(planner, misplanned, count)
+    for it in (planner, RarestFirst(planner)):
+        candidates(it, misplanned, count)
+    rarest(count)
     for says, it in {"by the program": Command(f"{program} plan", True), "by the library": library}.items():
         if it:
             many(it, says, count)

@@ -2,7 +2,7 @@
 
 A plan is best for the problem that it was asked: no assignment of as many of these splits to queues of these lengths
 has a lesser byte-distance. How long the queues are, when they are planned anew and in what order they start is guessed
-from how long calls took, and of that nothing is proved.
+from how long calls took, and of that nothing is proved. A session plans onto queues of these lengths by itself.
 """
 from __future__ import annotations
 
