@@ -35,7 +35,7 @@ from reference_play import misplayed
 from test_ahead import anew, lengths, phases, saved, waiting
 from test_faults import without_scheduler
 from test_jobs import jobs
-from test_pending import candidates, edge, many, many_blocks, rarest
+from test_pending import candidates, edge, many, many_blocks, rarest, some_pending
 from test_place import planners, racks
 from words import blocks_of, index_lines, map_words, reduce_words
 
@@ -126,6 +126,9 @@ def waves(program: str, library: Optional[Planner], count: Count) -> None:
     for name, planner in planners.items():
         wrong = [seed for seed in range(100) if misplanned(planner, some_wave(Random(seed)))]
         count.holds(f"100 clusters, by {name}: each plan is best, by the reference", not wrong, wrong)
+    seen = [Direct(make(Random(seed))) for make in (some_wave, some_pending) for seed in range(300)]
+    wrong = [it for it, wave in enumerate(seen) if reference_check.by_chains(wave) != reference_check.by_all_ways(wave)]
+    count.holds("600 clusters: the reference finds the same best both ways", not wrong, wrong)
 
 
 def refuses(planner: Planner, wave: Wave) -> str:
