@@ -99,7 +99,8 @@ WIDER = lines("problem 3", "centre c", "rack r c", *(f"worker {it} r 1" for it i
 
 
 def late_prices(size):
-    """A text of so many workers as there is room for with the most prices of places, and a line that has a fault."""
+    """A text of as many workers with the most prices of places as there is room for, and a line that has a
+    fault."""
     workers = range(min(size // 530, 32_768))
     front = lines("problem 3", "centre c", "rack r c", *(f"worker w{number} r 1" for number in workers))
     return late(front, lambda: (f"places w{number}{' 0' * 255}\n" for number in workers))(size)
