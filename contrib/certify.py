@@ -47,7 +47,7 @@ class Wave:
         return self.text.bytes[s] * min(self.distance(h, w) for h in self.live_holders[s])
 
     def place_price(self, w, place):
-        """The price of a worker's place, counted from 0. A place past the last price costs as much as it."""
+        """The price of a worker's place, counted from 0. A place past the last price costs as much."""
         return self.place_prices[w][min(place, len(self.place_prices[w]) - 1)]
 
     def places_cost(self, w, places):

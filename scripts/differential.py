@@ -4,13 +4,14 @@ reference_run.py say of them.
 
     differential.py PROGRAM..
 
-The texts are the same in each run: what `make_texts.py KIND SEED` makes of the seeds from 1, fronts of
-examples, a script with a death more at each of its places, problems of up to 4,000 splits or 32,768 workers, and texts at the
-limits on counts and bytes. A check's answer has to be the reference's. A plan with its prices, over either network, has
-to start as many splits at as little cost as any choice of starts, and to be certified by the reference; without prices
-its lines are the same up to them. A script's report is followed command by command. A job's answer has to be the
-reference's, and the end of the report of a script that brings it as far; what a run says was done is followed event by
-event. The last line counts the groups of texts that agree.
+The texts are the same in each run: what `make_texts.py KIND SEED` makes of the seeds from 1, each front of
+some examples, a script with a death more at each of its places, problems of up to 4,000 splits or 32,768
+workers, and texts at the limits on counts, bytes and prices. A check's answer has to be the reference's. A plan
+with its prices, over either network, has to start as many splits at as little cost as any choice of starts, and
+to be certified by the reference; without prices its lines are the same up to them. A script's report is followed
+command by command. A job's answer has to be the reference's, and the end of the report of a script that brings
+it as far; what a run says was done is followed event by event. The last line counts the groups of texts that
+agree.
 """
 import os
 import random
@@ -25,9 +26,9 @@ from reference_check import answer, misplanned
 from reference_play import misplayed
 from reference_text import MAX_TEXT_BYTES
 
-CHECKED = {"best": 120, "changed": 200, "faulty": 320}
-# And where places have prices.
-CHECKED.update({"placed": 120, "changed_placed": 200, "faulty_placed": 320})
+CHECKED = {
+    "best": 120, "changed": 200, "faulty": 320, "placed": 120, "changed_placed": 200, "faulty_placed": 320,
+}
 PLANNED = {"problem": 300, "faulty_problem": 200}
 PLAYED = {"script": 1000, "faulty_script": 500, "vast_script": 20, "joined_script": 40}
 RUN = {"job": 2000, "faulty_job": 500}
