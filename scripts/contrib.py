@@ -5,9 +5,9 @@
 
 The examples in each script's help run, and a script whose reader leaves ends quietly. certify.py answers what `check`
 answers: the examples, 860 made texts and those at the limits on counts. The starts of plans come to their cost. A least
-flow over dimacs_of_problem.py's network, by a search of its own, starts and costs what `plan` says. The jobs and
-scripts of job_of_files.py have the index that is made here of the files, lie on workers as HDFS places blocks, and past
-a limit none is written. The pictures of the docs are what picture.py makes of the samples anew, whose answers are a
+flow over dimacs_of_problem.py's network, by a search of its own, starts and costs what `plan` says, and so does
+plan_places.py where places have no prices. The jobs and scripts of job_of_files.py have the index that is made
+here of the files, lie on workers as HDFS places blocks, and past a limit none is written. The pictures of the docs are what picture.py makes of the samples anew, whose answers are a
 best plan and a report; pictures of many shapes fit a page, and a history is drawn as its report is. What `make install`
 puts into an empty folder runs from there, and `make uninstall` leaves nothing. README's commands write what it shows of
 them, and each link of the documents leads somewhere. The last line counts.
@@ -45,6 +45,7 @@ from certify import answer
 from drawing import cut
 from picture_of_plan import draw_plan
 from picture_of_report import draw_report
+from plan_places import planned
 from texts import Fault
 
 CONTRIB, EXAMPLES = ROOT / "contrib", ROOT / "examples"
@@ -271,6 +272,19 @@ def flows(count, program):
     count.none("least flows cost what plans cost", wrong)
     out, _, status = script("dimacs_of_problem.py", given=b"problem 3\n")
     count.expect("no flow of a fault", (out, status), (b"", 1))
+
+
+def priced(count, program):
+    """Where places have no prices, plan_places.py starts as many splits at the same cost as the plan."""
+    wrong = []
+    for text in problems():
+        plan = said([program, "plan"], text)[0].decode().splitlines()[0]
+        certified = said([program, "check"], planned(text).encode())[0].decode()
+        if certified.split() != ["certified", *plan.split()[1:]]:
+            wrong.append((text, plan, certified))
+    count.none("plans of plan_places.py cost what plans cost", wrong)
+    out, _, status = script("plan_places.py", given=b"problem 3\n")
+    count.expect("no plan of places of a fault", (out, status), (b"", 1))
 
 
 def index_of(names):
@@ -673,6 +687,7 @@ def main():
             certified(count, program)
             started(count, program)
             flows(count, program)
+            priced(count, program)
             indexed(count, program, Path(room))
             large(count, program, Path(room))
             many_drawn(count, program)
