@@ -1,5 +1,5 @@
 -- The prices of places that the rows of a text without a fault declare are small, and do not fall.
-use Rattle.std.proofs.Common.{ℕ, List, [], ◌∷◌, ◌≡◌, ◌≤◌, ◌<◌, Option, Some, None, arith, get_or, length, map}
+use Rattle.std.proofs.Common.{ℕ, List, [], ◌≡◌, ◌≤◌, ◌<◌, Option, Some, None, arith, get_or, length, map}
 use Rattle.std.proofs.Common.{drop, refl, subst, sym, unwrap_or}
 use Rattle.std.specs.List.{All, position}
 use Rattle.std.specs.Option.{option_map}

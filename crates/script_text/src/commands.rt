@@ -70,7 +70,7 @@ pub fn command_of(
         Keyword::Rack | Keyword::Worker | Keyword::Split | Keyword::Barred => unreachable!(),
         Keyword::Dead | Keyword::Busy | Keyword::Parts | Keyword::Target => unreachable!(),
         Keyword::Silence | Keyword::Doc | Keyword::Plan | Keyword::Start => unreachable!(),
-        Keyword::Price | Keyword::Begin | Keyword::End => unreachable!(),
+        Keyword::Price | Keyword::Begin | Keyword::End | Keyword::Places => unreachable!(),
     }
 }
 
