@@ -40,7 +40,7 @@ const ENTRIES: [Entry; 44] = [
     Entry {
         kind: "fault",
         name: "5",
-        sentence: "a number is out of its range, or a price of a place lower than the one before it",
+        sentence: "a number is out of its range, or prices of places fall",
     },
     Entry {
         kind: "fault",
@@ -125,7 +125,7 @@ const ENTRIES: [Entry; 44] = [
     Entry {
         kind: "condition",
         name: "C8",
-        sentence: "a worker's price is at least that of its last place taken, and at most that of its first place left (0 if free)",
+        sentence: "a worker's price is at least its last taken place's and at most its next one's (0 if free)",
     },
     Entry {
         kind: "ignored",

@@ -76,7 +76,7 @@ fn rows_are_asked_for(rt: HostRuntime) {
     let rows: [(&[&str], &str); 3] = [
         (
             &["mrjob", "explain", "fault", "5"],
-            "fault 5: a number is out of its range\n",
+            "fault 5: a number is out of its range, or prices of places fall\n",
         ),
         (
             &["mrjob", "explain", "C3"],
