@@ -61,6 +61,7 @@ holders_entered s = by (entering_of s.keyword) refl
   where
     none : (s.keyword ≡ Split → ⊥) → [] ≡ holders_in (s ∷ [])
     none other = ap (λ b. flat_map tail_words (cond b (s ∷ []) [])) (sym (is_of-other Split s other))
+
     by : (e : Entering) → entering_of s.keyword ≡ e → holders_in (entered_by e s) ≡ holders_in (s ∷ [])
     by Nothing is = none (λ same. let e = sym (ap entering_of same) ∙ is in cc)
     by InTurn is = none (λ same. let e = sym (ap entering_of same) ∙ is in cc)

@@ -26,3 +26,4 @@ pub mod Worded
 pub mod Worst
 pub mod Numbered
 pub mod Held
+pub mod Sizes

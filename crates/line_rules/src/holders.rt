@@ -48,11 +48,7 @@ pub fn words_to_ask<'w, 't>(held: bool, keyword: Keyword, words: &'w [&'t str]) 
 }
 
 // Puts the numbers of the workers of these names into an empty list, if each is a worker's.
-fn put_numbers(
-    rows: &Rows<'_>,
-    names: &[&str],
-    numbers: &mut Vec<u32>,
-) -> Result<bool, AllocError>
+fn put_numbers(rows: &Rows<'_>, names: &[&str], numbers: &mut Vec<u32>) -> Result<bool, AllocError>
     requires { numbers.old.items ≡ [] }
     ensures held { IfOk result (λ held. IsTrue held ↔ All (IsWorker rows.now) (map (λ n. n.now) names.now)) }
     ensures numbers { IfOk result (λ held. IsTrue held
@@ -67,7 +63,7 @@ fn put_numbers(
     Ok(true)
 }
 
-// The number of the worker of this name.
+// The number of the worker of this name. It stands most often with the first line that was entered by the name.
 #[inline(always)]
 fn worker_number(rows: &Rows<'_>, name: &str) -> Option<usize>
     ensures { MatchOption result (IsWorker rows.now name.now → ⊥)
@@ -76,5 +72,8 @@ fn worker_number(rows: &Rows<'_>, name: &str) -> Option<usize>
     if name.is_empty() {
         return None;
     }
-    rows.number(Keyword::Worker, name, "")
+    match rows.first_of(Keyword::Worker, name) {
+        Some(number) => Some(number as usize),
+        None => rows.number(Keyword::Worker, name, ""),
+    }
 }

@@ -404,8 +404,19 @@ fn most_slots(version: Version) -> u64
 }
 
 // Whether the line gives a split no more bytes, and a worker no more slots, than they may have in a text of
-// the version. The word of the bytes or of the slots is a number, since the line is in range.
+// the version. In the newest version they may have as many as the ranges of their places allow.
 fn is_of_size(version: Version, line: &KeyedLine<'_, '_>) -> bool
+    requires { IsInRange (statement_of line.now) }
+    ensures { IsTrue result ↔ IsOfSize version line.now.keyword (statement_of line.now).words }
+{
+    match version {
+        Version::One | Version::Two => is_within_size(version, line),
+        Version::Three => true,
+    }
+}
+
+// The same, by the number that the line gives. Its word is a number, since the line is in range.
+fn is_within_size(version: Version, line: &KeyedLine<'_, '_>) -> bool
     requires { IsInRange (statement_of line.now) }
     ensures { IsTrue result ↔ IsOfSize version line.now.keyword (statement_of line.now).words }
 {
