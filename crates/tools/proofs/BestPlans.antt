@@ -8,11 +8,12 @@ use Rattle.std.specs.List.{All}
 use Rattle.std.proofs.lemmas.List.Elements.{All-cons, All-nil}
 use Rattle.std.proofs.lemmas.Grind.{common_steps}
 use Rattle.std.proofs.lemmas.List.Sums.{sum_by-le}
-use Rattle.wave_problem.specs.Wave.{IsWithinLimits, Split, Wave, reward}
+use Rattle.wave_problem.specs.Wave.{IsWithinLimits, Split, Wave}
 use Rattle.wave_problem.specs.declared.TheConstants.{MAX_BYTES}
 use Rattle.wave_problem.specs.Assignment.{IsBest, pairs_of}
 use Rattle.wave_problem.proofs.Bound.{live_known}
-use Rattle.price_certificate.specs.Certificate.{Certifies, Claim, HasOneSize, claim}
+use Rattle.price_certificate.specs.Places.{full_reward}
+use Rattle.price_certificate.specs.Certificate.{Certifies, Claim, HasOneSize, claim, reward_of}
 use Rattle.price_certificate.specs.declared.Condition.TheVariants.{Allowed, SplitPrice, WorkerPrice}
 use Rattle.price_certificate.specs.PriceList.{PriceList}
 use Rattle.flow_network.specs.declared.kinds.NetworkKind.{NetworkKind}
@@ -104,7 +105,7 @@ all_below n m (x ∷ xs) less each =
     (all_below n m xs less (λ i. each (suc i)))
 
 plan_for_names : (ss ws : List Word) (c : Claim) (plan_workers : ℕ) → length ss ≡ length c.wave.splits
-    → length ws ≡ length c.wave.workers → HasOneSize c plan_workers → Certifies c → reward c.wave < 2 ^ 64
+    → length ws ≡ length c.wave.workers → HasOneSize c plan_workers → Certifies c → reward_of c < 2 ^ 64
     → IsWritable ss ws c.starts c.prices
 plan_for_names ss ws c plan_workers as_splits as_workers sized certifies small = record {
   split_starts = sized.starts ∙ sym as_splits;
@@ -112,8 +113,8 @@ plan_for_names ss ws c plan_workers as_splits as_workers sized certifies small =
   worker_prices = sized.worker_prices ∙ sym as_workers;
   of_workers = λ s w started. subst (λ n. w < n) (sym as_workers)
       (live_known c.wave w (certifies (Allowed s w) started).0);
-  split_amounts = all_below (2 ^ 64) (reward c.wave) c.prices.splits small (λ s. certifies (SplitPrice s));
-  worker_amounts = all_below (2 ^ 64) (reward c.wave) c.prices.workers small (λ w. certifies (WorkerPrice w));
+  split_amounts = all_below (2 ^ 64) (reward_of c) c.prices.splits small (λ s. certifies (SplitPrice s));
+  worker_amounts = all_below (2 ^ 64) (reward_of c) c.prices.workers small (λ w. certifies (WorkerPrice w));
 }
 
 -- the line and the starts of a plan whose parts are those of the claim
@@ -125,7 +126,7 @@ front_of ss ws c count cost starts lines as_starts as_count as_cost said =
     said ∙ (λ i. wave_line (as_count i) (as_cost i) ++ start_lines ss ws (as_starts i))
 
 -- no price is past what can be read back
-pub small_reward : (wave : Wave) → IsWithinLimits wave → reward wave < 2 ^ 64
+pub small_reward : (wave : Wave) → IsWithinLimits wave → full_reward [] wave < 2 ^ 64
 small_reward wave limits =
     let most = sum_by-le (λ (split : Split). split.bytes) MAX_BYTES wave.splits limits.bytes in
     let few = limits.few_splits in
@@ -137,7 +138,7 @@ pub plans_problem : (network : NetworkKind) (with_prices : Bool) (ss ws : List W
     → length ws ≡ length c.wave.workers → (IsPast network c.wave → ⊥)
     → IsMadeOver network c.wave c.starts c.prices
     → HasOneSize c plan_workers → Certifies c → IsBest c.wave (pairs_of c.starts)
-    → reward c.wave < 2 ^ 64
+    → reward_of c < 2 ^ 64
     → lines ≡ (wave_line (plan_count c) (plan_cost c) ++ start_lines ss ws c.starts)
     ++ asked_prices with_prices ss ws c.prices
     → PlansProblem c.wave ss ws network with_prices lines
