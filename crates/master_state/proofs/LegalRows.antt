@@ -57,7 +57,8 @@ certified (Tight zero w) = λ e. subst (λ v. priced_at asked.wave asked.prices 
 certified (Tight (suc s) w) = λ e. absurd (false≢true (ap is_some e))
 certified (Unstarted zero) = λ e. absurd (false≢true (sym (ap is_some e)))
 certified (Unstarted (suc s)) = λ e. refl
-certified (Spare w) = record { taken = λ _. omega arith; left = λ _. omega arith }
+certified (Spare zero) = record { taken = λ _. omega arith; left = λ _. omega arith }
+certified (Spare (suc w)) = record { taken = λ _. omega arith; left = λ _. omega arith }
 
 -- the wave, and its result
 pub legal : IsLegal job (events.Wave 1 1 0 ∷ events.MapDone 1 ∷ [])

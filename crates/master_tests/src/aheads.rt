@@ -126,8 +126,13 @@ fn start_the_second(rt: &impl Abort, alloc: Global, job: &mut Job) {
         count: 1,
         cost: 0,
     };
+    let certified = Certified {
+        count: 1,
+        cost: 0,
+        places: 0,
+    };
     let told = ahead(rt, alloc, job, &[2, 0]);
-    assert_eq!(rt; told, Ok((Certified { count: 1, cost: 0, places: 0 }, wave)));
+    assert_eq!(rt; told, Ok((certified, wave)));
     assert_eq!(rt; job.master.start(AttemptNo::new(2)), Some(on_the_first(1)));
 }
 
