@@ -1,6 +1,7 @@
 -- The numbers of the workers that hold splits.
 use Rattle.std.proofs.Common.{ℕ, List, [], ◌∷◌, ◌++◌, ◌≡◌, ◌<◌, ◌∙◌, Bool, Bor, true, false, ap, append-nil, arith}
-use Rattle.std.proofs.Common.{cond, drop, get_or, length, length-drop, map, refl, subst, suc, sym, take, take_all, zero}
+use Rattle.std.proofs.Common.{cond, drop, get_or, length, length-drop, map, refl, subst, suc, sym, take}
+use Rattle.std.proofs.Common.{take_all, zero}
 use Rattle.std.proofs.Common.{◌+◌, ◌-◌, min, None, Option, Some}
 use Rattle.std.specs.Prelude.{Contains, MatchOption}
 use Rattle.std.specs.List.{All, filter, flat_map}

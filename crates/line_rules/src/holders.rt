@@ -63,7 +63,8 @@ fn put_numbers(rows: &Rows<'_>, names: &[&str], numbers: &mut Vec<u32>) -> Resul
     Ok(true)
 }
 
-// The number of the worker of this name. It stands most often with the first line that was entered by the name.
+// The number of the worker of this name. Most often it stands with the first line that was entered by the
+// name.
 #[inline(always)]
 fn worker_number(rows: &Rows<'_>, name: &str) -> Option<usize>
     ensures { MatchOption result (IsWorker rows.now name.now → ⊥)

@@ -284,8 +284,9 @@ impl<'t> KnownLines<'t> {
         }
     }
 
-    /// Takes one line more; `rest` is what follows the space after its keyword, `bar` are the numbers of the pair
-    /// that it bars, where they are known, and `holders` those of its holders. After an error it was not taken.
+    /// Takes one line more; `rest` is what follows the space after its keyword, `bar` are the numbers of the
+    /// pair that it bars, where they are known, and `holders` the numbers of its holders. After an error it
+    /// was not taken.
     pub fn enter(
         &mut self,
         line: &KeyedLine<'_, 't>,

@@ -45,8 +45,8 @@ pub(crate) struct FitLine<'w, 'l> {
     pub bar: Option<(u32, u32)>,
 }
 
-// The same, with what else is known of the line, and with the numbers of its holders in place of what `holders`
-// had. `printable` says that all bytes of the line are known to be printable.
+// The same, with what else is known of the line. The numbers of its holders replace what `holders` had.
+// `printable` says that all bytes of the line are known to be printable.
 #[inline(always)]
 pub(crate) fn fit_line_in<'w, 'l>(
     words: &'w mut Vec<&'l str>,

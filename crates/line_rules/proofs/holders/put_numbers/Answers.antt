@@ -20,7 +20,8 @@ loop-i-preserved c =
     let i = c.loop-i.i in
     record {
       numbers = subst (λ ns. AreNumbersOf rows (map (λ n. n.now) (take (i + 1) names)) ns)
-          (ap (λ n. c.loop-i.numbers.items ++ n ∷ []) (sym c.in_ok-short_number.ensures) ∙ sym c.in_ok-push.ensures.items)
+          (ap (λ n. c.loop-i.numbers.items ++ n ∷ []) (sym c.in_ok-short_number.ensures)
+          ∙ sym c.in_ok-push.ensures.items)
           (numbers_more rows names i c.in-Some.number _ c.loop-i.numbers.items c.loop-i-test.true
           c.loop-i.invariant.numbers c.in-Some.ensures.1);
       held = workers_more rows names i _ c.loop-i-test.true c.loop-i.invariant.held c.in-Some.ensures.0;
