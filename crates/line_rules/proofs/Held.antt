@@ -1,10 +1,9 @@
 -- The numbers of the workers that hold splits.
-use Rattle.std.proofs.Common.{ℕ, List, [], ◌∷◌, ◌++◌, ◌≡◌, ◌<◌, ◌∙◌, Bool, Bor, true, false, ap, append-nil, arith}
+use Rattle.std.proofs.Common.{ℕ, List, [], ◌∷◌, ◌++◌, ◌≡◌, ◌<◌, ◌∙◌, Bor, ap, arith}
 use Rattle.std.proofs.Common.{cond, drop, get_or, length, length-drop, map, refl, subst, suc, sym, take}
-use Rattle.std.proofs.Common.{take_all, zero}
-use Rattle.std.proofs.Common.{◌+◌, ◌-◌, min, None, Option, Some}
+use Rattle.std.proofs.Common.{◌+◌, ◌-◌, min, None, Option, Some, take_all}
 use Rattle.std.specs.Prelude.{Contains, MatchOption}
-use Rattle.std.specs.List.{All, filter, flat_map}
+use Rattle.std.specs.List.{All, flat_map}
 use Rattle.std.proofs.lemmas.Grind.{flat_map-append}
 use Rattle.std.proofs.lemmas.List.{get_or-map, get_or_default, length-map, map-append, take_more}
 use Rattle.std.proofs.lemmas.List.Elements.{All-append, All-cons, All-nil, All-weaker, filter-append}
@@ -14,13 +13,11 @@ use Rattle.line_shapes.specs.Lines.{IsShaped, Statement, stated, tail_words}
 use Rattle.line_shapes.specs.declared.demand.Demand.TheVariants.{Shape}
 use Rattle.line_shapes.specs.declared.keyword.Keyword.{Keyword}
 use Rattle.line_shapes.specs.declared.keyword.Keyword.TheVariants.{Split, Worker}
-use Rattle.line_rules.specs.Entered.{AreFit}
 use Rattle.line_rules.specs.Entering.{entered_by, entered_of, entering_of}
 use Rattle.line_rules.specs.Faults.{Keep}
 use Rattle.line_rules.specs.Holders.{AreHolders, AreHoldersOf, AreNumbersOf, IsHeld, IsWorker, holders_in}
 use Rattle.line_rules.specs.Known.{HasNumber, is_of, keys_of, rows_of}
 use Rattle.line_rules.specs.Rows.{name_in}
-use Rattle.line_rules.specs.declared.edition.Version.{Version}
 use Rattle.line_rules.specs.declared.entering.Entering.{Entering}
 use Rattle.line_rules.specs.declared.entering.Entering.TheVariants.{Nothing, InTurn}
 use Rattle.line_rules.specs.declared.rule.Rule.TheVariants.{Declared}
@@ -99,21 +96,6 @@ fit_held rows s shaped keep same =
     subst (λ (t : Statement). All (IsWorker rows) (tail_words t)) (sym is)
     (held_words rows s.words (subst (λ (t : Statement). Meet Shape t.keyword t.words) is shaped.shape)
     (subst (Keep Declared rows) is keep))
-
-asked_words : (version : Version) (rows : List Statement) (ws : List Word) → All (IsWorker rows) (drop 2 ws)
-    → AreFit version rows (split_line (take 2 ws)) → AreFit version rows (split_line ws)
-asked_words version rows [] held fit i lt = fit i lt
-asked_words version rows (a ∷ []) held fit i lt = fit i lt
-asked_words version rows (a ∷ b ∷ ws) held fit zero lt = fit 0 (omega arith)
-asked_words version rows (a ∷ b ∷ ws) held fit (suc zero) lt = fit 1 (omega arith)
-asked_words version rows (a ∷ b ∷ ws) held fit (suc (suc i)) lt = held i [] (omega arith)
-
--- where the holders are workers, the words before them are left to ask
-pub asked_fit : (version : Version) (rows : List Statement) (ws asked : List Word)
-    → All (IsWorker rows) (drop 2 ws) → asked ≡ take 2 ws → AreFit version rows (split_line asked)
-    → AreFit version rows (split_line ws)
-asked_fit version rows ws asked held is fit =
-    asked_words version rows ws held (subst (λ us. AreFit version rows (split_line us)) is fit)
 
 -- ---- words that are looked up in turn
 
