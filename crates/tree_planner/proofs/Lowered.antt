@@ -1,8 +1,14 @@
 -- What no end of a split elsewhere costs less than.
-use Rattle.std.proofs.Common.{◌≡◌, ℕ, ◌≤◌, ◌⊎◌, refl, sym, subst, inl, inr, arith}
-use Rattle.wave_problem.specs.Wave.{Wave}
+use Rattle.std.proofs.Common.{◌≡◌, ℕ, zero, suc, true, ◌+◌, ◌*◌, ◌≤◌, ◌⊎◌, refl, sym, ap, subst, inl, inr, arith}
+use Rattle.std.proofs.lemmas.Bool.{false≢true}
+use Rattle.std.proofs.Math.Nat.{mul-le-mul_left}
+use Rattle.rack_tree.specs.Tree.{Tree}
+use Rattle.wave_problem.specs.Wave.{Wave, split_at}
+use Rattle.tree_flow.specs.declared.nodes.End.{End}
 use Rattle.tree_flow.specs.declared.nodes.TreeNode.{TreeNode}
-use Rattle.tree_flow.specs.State.{State}
+use Rattle.tree_flow.specs.declared.nodes.TreeNode.TheVariants.{Rack}
+use Rattle.tree_flow.specs.Nodes.{is_under, node_above, IsEnd}
+use Rattle.tree_flow.specs.State.{State, reach_cost}
 use Rattle.tree_planner.specs.declared.lows.Low.{Low}
 use Rattle.tree_planner.specs.declared.lows.Lows.{Lows}
 use Rattle.tree_planner.specs.declared.search.Ground.{Ground}
@@ -86,3 +92,19 @@ module _ (old : Search) (lows : Lows) (split : ℕ) (low : Low)
           (subst (λ t. IsLow (wave_of g) (state_at g) t low) (sym here.0) is)
     ];
   }
+
+-- no rack is at a worker
+above_worker : (tree : Tree) (r level h : ℕ) → is_under tree (Rack r) (node_above tree level h) ≡ true → 1 ≤ level
+above_worker tree r zero h under = absurd (false≢true under)
+above_worker tree r (suc level) h under = omega arith
+
+-- so an end at a rack costs no less than one of the level above workers
+pub rack_least : (wave : Wave) (state : State) (s r : ℕ) (x : End) → IsEnd wave s x → x.node ≡ Rack r
+    → (split_at wave s).bytes * (2 * 1) + state.depth (Rack r) ≤ reach_cost wave state s x
+rack_least wave state s r x is at =
+    let high = above_worker wave.tree r x.level is.holder
+    (subst (λ v. is_under wave.tree v (node_above wave.tree x.level is.holder) ≡ true) at is.near) in
+    let steps : 2 * 1 ≤ 2 * x.level = omega arith in
+    let scaled = mul-le-mul_left (split_at wave s).bytes steps in
+    let deep = ap state.depth at in
+    omega arith

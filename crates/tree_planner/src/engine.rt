@@ -244,11 +244,6 @@ fn ship_if_known(
     }
 }
 
-// For how many splits lows are kept: for all if there are 16 or more for each node, else for none.
-fn splits_with_lows(splits: usize, nodes: usize) -> usize {
-    if splits / 16 >= nodes { splits } else { 0 }
-}
-
 // Ships the splits in the order in which the fewest searches are needed.
 fn ship_in_order(
     alloc: Global,
@@ -260,8 +255,7 @@ fn ship_in_order(
     requires standing { IsStanding problem.now tables.old }
     ensures { IsStanding problem.now tables.new }
 {
-    let lows = splits_with_lows(problem.splits(), fixed.nodes.len());
-    let mut search = Search::new(alloc, problem.tree(), fixed.nodes.len(), lows)?;
+    let mut search = Search::new(alloc, problem.tree(), fixed.nodes.len(), problem.splits())?;
     let order = shipping_order(alloc, problem, fixed.slots.get(TreeNode::Cluster))?;
     for split in &order {
         ship_if_known(problem, fixed, tables, &mut search, *split);

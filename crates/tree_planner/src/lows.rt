@@ -1,15 +1,33 @@
-//! What each split would pay at least at another node than its own.
-ghost use Rattle.std.specs.Prelude.{◌≡◌, ◌⊎◌, ℕ, IfOk};
-ghost use Rattle.tree_planner.specs.Lows.{low_at, no_low};
+//! What each split would pay at least at another node than its own, two racks left out.
+ghost use Rattle.std.specs.Prelude.{◌≡◌, ◌⊎◌, ◌↔◌, ℕ, IfOk, IsTrue};
+ghost use Rattle.tree_planner.specs.Lows.{low_at, no_low, IsSpared};
 
+use crate::tree_nodes::is_same;
 use std::alloc::{AllocError, Global};
 use tree_flow::TreeNode;
 
-/// A node, and what an end of a split at another node costs at least.
+/// A node and the numbers of two racks, which need not be racks of the tree.
+#[derive(Clone, Copy)]
+pub struct Spared {
+    pub node: TreeNode,
+    pub one: u16,
+    pub two: u16,
+}
+
+/// What an end of a split costs at least, unless it is at a spared node.
 #[derive(Clone, Copy)]
 pub struct Low {
-    pub node: TreeNode,
+    pub spared: Spared,
     pub least: u64,
+}
+
+/// Whether a node is spared.
+pub fn is_spared(spared: Spared, node: TreeNode) -> bool
+    ensures { IsTrue result ↔ IsSpared spared node }
+{
+    is_same(node, spared.node)
+        || is_same(node, TreeNode::Rack(spared.one))
+        || is_same(node, TreeNode::Rack(spared.two))
 }
 
 /// A low for each split, or for none.
@@ -26,11 +44,6 @@ impl Lows {
         Ok(Lows {
             each: vec![in alloc; none(); splits]?,
         })
-    }
-
-    /// Whether a split has a low.
-    pub fn has(&self, split: u32) -> bool {
-        (split as usize) < self.each.len()
     }
 
     /// The low of a split; one that says nothing, if it has none.
@@ -62,7 +75,25 @@ fn none() -> Low
     ensures { result ≡ no_low }
 {
     Low {
-        node: TreeNode::Cluster,
+        spared: Spared {
+            node: TreeNode::Cluster,
+            one: 0,
+            two: 0,
+        },
+        least: 0,
+    }
+}
+
+/// A low that says nothing and spares this node, and no rack.
+pub fn nothing_but(node: TreeNode) -> Low
+    ensures { result.least ≡ 0 }
+{
+    Low {
+        spared: Spared {
+            node,
+            one: u16::MAX,
+            two: u16::MAX,
+        },
         least: 0,
     }
 }

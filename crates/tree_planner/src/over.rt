@@ -3,16 +3,17 @@ ghost use Rattle.std.specs.Prelude.{◌≡◌, ◌≢◌, ◌+◌, ◌^◌, ◌<
 ghost use Rattle.tree_flow.specs.declared.nodes.End.{End};
 ghost use Rattle.tree_flow.specs.declared.nodes.Place.TheVariants.{Stands};
 ghost use Rattle.tree_flow.specs.declared.nodes.TreeNode.{TreeNode};
+ghost use Rattle.tree_flow.specs.declared.nodes.TreeNode.TheVariants.{Rack};
 ghost use Rattle.tree_flow.specs.Nodes.{IsEnd, IsNode};
 ghost use Rattle.tree_flow.specs.State.{place_of, reach_cost};
-ghost use Rattle.tree_planner.specs.Lows.{IsLeastBut};
+ghost use Rattle.tree_planner.specs.Lows.{IsLeastBut, IsLow, IsSpared};
 ghost use Rattle.tree_planner.specs.declared.split_ends.Group.TheVariants.{Below};
 ghost use Rattle.tree_planner.specs.Ends.{ends_at, IsLeft, IsOf};
 ghost use Rattle.tree_planner.specs.Searching.{state_at, wave_of, AreOf, GoesAllOver, Improves, IsAt};
 ghost use Rattle.tree_planner.specs.Searching.{IsGround};
 ghost use Rattle.tree_planner.specs.Searching.{IsLeaving, IsOut, IsOutBy, IsOverTo, IsSearching};
 
-use crate::lows::Low;
+use crate::lows::{Low, Spared, is_spared, nothing_but};
 use crate::reached::FAR;
 use crate::search::{
     Goal, Ground, Search, Step, cost_at, cost_below, end_cost, ends_of, is_free, is_inner,
@@ -63,10 +64,11 @@ pub fn hand_over(ground: &Ground<'_>, search: &mut Search, split: u32, end: End)
     for group in ends.groups() {
         over_group(ground, search, leaving, &ends, *group);
     }
-    learn_low(ground, search, split, end.node);
+    learn_low(ground, search, leaving);
 }
 
-// Whether it is known that a split comes no nearer at any other end than the nearest end of a way.
+// Whether it is known that a split comes no nearer at any other end than a search has come there, or than the
+// nearest end of a way.
 fn stays(ground: &Ground<'_>, search: &Search, leaving: Leaving) -> bool
     requires ground { IsGround ground.now }
     requires searching { IsSearching ground.now search.now }
@@ -74,12 +76,46 @@ fn stays(ground: &Ground<'_>, search: &Search, leaving: Leaving) -> bool
     ensures { IsTrue result → (x : End) → IsEnd (wave_of ground.now) leaving.split x
         → IsOverTo ground.now search.now leaving.end leaving.split x }
 {
-    let _ = ground;
     let low = search.lows.of(leaving.split);
-    if is_same(low.node, leaving.end.node) {
+    if !is_past_low(ground, search, leaving, low) {
+        return false;
+    }
+    let one = is_past_rack(ground, search, leaving, low.spared.one);
+    let two = is_past_rack(ground, search, leaving, low.spared.two);
+    one && two
+}
+
+// Whether by its low a split comes no nearer than the nearest end of a way, but for the two racks.
+fn is_past_low(ground: &Ground<'_>, search: &Search, leaving: Leaving, low: Low) -> bool
+    requires ground { IsGround ground.now }
+    requires searching { IsSearching ground.now search.now }
+    requires leaving { IsLeaving ground.now search.now leaving }
+    requires low { IsLow (wave_of ground.now) (state_at ground.now) leaving.split low }
+    ensures { IsTrue result → (x : End) → IsEnd (wave_of ground.now) leaving.split x
+        → x.node ≢ Rack low.spared.one → x.node ≢ Rack low.spared.two
+        → IsOverTo ground.now search.now leaving.end leaving.split x }
+{
+    let _ = ground;
+    if is_same(low.spared.node, leaving.end.node) {
         return is_past_bound(search, leaving, low.least);
     }
     false
+}
+
+// Whether a split surely comes no nearer at a rack.
+fn is_past_rack(ground: &Ground<'_>, search: &Search, leaving: Leaving, rack: u16) -> bool
+    requires ground { IsGround ground.now }
+    requires searching { IsSearching ground.now search.now }
+    requires leaving { IsLeaving ground.now search.now leaving }
+    ensures { IsTrue result → (x : End) → IsEnd (wave_of ground.now) leaving.split x → x.node ≡ Rack rack
+        → IsOverTo ground.now search.now leaving.end leaving.split x }
+{
+    let node = TreeNode::Rack(rack);
+    if !is_inner(ground, node) {
+        return true;
+    }
+    let distance = leaving.far + cost_below(ground, leaving.split, End { node, level: 1 });
+    search.is_past(node, distance, leaving.spent)
 }
 
 // Whether an end that costs this is surely no nearer than the nearest end of a way.
@@ -91,47 +127,87 @@ fn is_past_bound(search: &Search, leaving: Leaving, cost: u64) -> bool
     search.bound + leaving.spent <= leaving.far + cost
 }
 
-// Notes what a split would pay at least at another node, if it has a low.
-fn learn_low(ground: &Ground<'_>, search: &mut Search, split: u32, node: TreeNode)
+// Notes what a split would pay at least elsewhere, if its low says too little. It is worth that only where a
+// search comes to the cluster, and has met the split at its node before.
+fn learn_low(ground: &Ground<'_>, search: &mut Search, leaving: Leaving)
     requires ground { IsGround ground.now }
-    requires split { split < length (wave_of ground.now).splits }
     requires searching { IsSearching ground.now search.old }
+    requires leaving { IsLeaving ground.now search.old leaving }
     ensures searching { IsSearching ground.now search.new }
     ensures improves { Improves search.old search.new }
 {
-    if search.lows.has(split) {
-        let least = least_elsewhere(ground, split, node);
-        search.note_low(split, Low { node, least });
+    let split = leaving.split;
+    let node = leaving.end.node;
+    if search.far_of(TreeNode::Cluster) >= FAR {
+        return;
+    }
+    let low = search.lows.of(split);
+    if !is_same(low.spared.node, node) {
+        search.note_low(split, nothing_but(node));
+        return;
+    }
+    if is_past_low(ground, search, leaving, low) {
+        return;
+    }
+    let ends = ends_of(ground, split);
+    if ends.barred().is_empty() {
+        let spared = spared_by(&ends, node);
+        let least = least_elsewhere(ground, split, spared);
+        search.note_low(split, Low { spared, least });
     }
 }
 
-// What a split would pay at least at another node; for groups of nodes, if one of them lay at 0.
-fn least_elsewhere(ground: &Ground<'_>, split: u32, node: TreeNode) -> u64
+// The node, and two other racks that are ends, if there are so many. No promise rests on which these are.
+fn spared_by(ends: &Ends<'_>, node: TreeNode) -> Spared {
+    let mut spared = nothing_but(node).spared;
+    for group in ends.groups() {
+        spared = with_rack(spared, *group);
+    }
+    spared
+}
+
+// Spares the rack of an end too, in place of the first one.
+fn with_rack(spared: Spared, group: Group) -> Spared {
+    let Group::Single(end) = group else {
+        return spared;
+    };
+    match end.node {
+        TreeNode::Rack(rack) if !is_same(spared.node, end.node) => Spared {
+            node: spared.node,
+            one: spared.two,
+            two: rack,
+        },
+        _ => spared,
+    }
+}
+
+// What a split would pay at least at a node that is not spared; for groups of nodes, if one of them lay at 0.
+fn least_elsewhere(ground: &Ground<'_>, split: u32, spared: Spared) -> u64
     requires ground { IsGround ground.now }
     requires split { split < length (wave_of ground.now).splits }
-    ensures least { IsLeastBut (wave_of ground.now) (state_at ground.now) split node result }
+    ensures least { IsLeastBut (wave_of ground.now) (state_at ground.now) split spared result }
     ensures most { result ≤ 2 ^ 54 }
 {
     let mut least = FAR;
     let ends = ends_of(ground, split);
     for group in ends.groups() {
-        least = least_of(ground, split, node, &ends, *group).min(least);
+        least = least_of(ground, split, spared, &ends, *group).min(least);
     }
     least
 }
 
-// What a split would pay at least at another node, of a group of its ends.
-fn least_of(ground: &Ground<'_>, split: u32, node: TreeNode, ends: &Ends<'_>, group: Group) -> u64
+// What a split would pay at least at a node that is not spared, of a group of its ends.
+fn least_of(ground: &Ground<'_>, split: u32, spared: Spared, ends: &Ends<'_>, group: Group) -> u64
     requires ground { IsGround ground.now }
     requires split { split < length (wave_of ground.now).splits }
     requires group { AreOf ground.now split (IsOutBy ground.now ends.now) group }
     ensures { (x : End) → IsOf (wave_of ground.now).tree (IsOutBy ground.now ends.now) group x
-        → x.node ≢ node → result ≤ reach_cost (wave_of ground.now) (state_at ground.now) split x }
+        → (IsSpared spared x.node → ⊥) → result ≤ reach_cost (wave_of ground.now) (state_at ground.now) split x }
 {
     let _ = ends;
     match group {
         Group::Single(other) => {
-            if is_same(other.node, node) {
+            if is_spared(spared, other.node) {
                 FAR
             } else {
                 cost_at(ground, split, other)
