@@ -16,16 +16,18 @@ pub returns-then-price_of : goal.returns-then-price_of
 returns-then-price_of c =
     let words = c.args.words.now in
     let i = c.loop-i.i in
-    let inside : i < length words = c.loop-i-test.true in
-    (λ t. cc, λ rising. absurd (one_falls (map (λ w. w.now) words) i c.loop-i.invariant.past (rw length-map inside)
-    (omega (
-      arith,
-      c.if-price_of.true,
-      c.price_of.ensures,
-      c.price_of-in-loop-i.ensures,
-      told_at words i inside,
-      told_at words (i - 1) (omega (arith, inside)),
-    )) rising))
+    let inside : i < length words = c.loop-i-test.true in (
+      λ t. cc,
+      λ rising. absurd (one_falls (map (λ w. w.now) words) i c.loop-i.invariant.past (rw length-map inside)
+          (omega (
+            arith,
+            c.if-price_of.true,
+            c.price_of.ensures,
+            c.price_of-in-loop-i.ensures,
+            told_at words i inside,
+            told_at words (i - 1) (omega (arith, inside)),
+          )) rising),
+    )
 
 pub loop-i-preserved : goal.loop-i-preserved
 loop-i-preserved c =
@@ -47,6 +49,8 @@ loop-i-preserved c =
 
 pub returns : goal.returns
 returns c =
-    let ws : List (List ℕ) = map (λ w. w.now) c.args.words.now in
-    (λ t. all_rise ws (λ k past lt. c.loop-i.invariant.rising k past
-    (omega (arith, lt, length-map c.args.words.now (λ w. w.now), c.loop-i-test.false))), λ rising. refl)
+    let ws : List (List ℕ) = map (λ w. w.now) c.args.words.now in (
+      λ t. all_rise ws (λ k past lt. c.loop-i.invariant.rising k past
+          (omega (arith, lt, length-map c.args.words.now (λ w. w.now), c.loop-i-test.false))),
+      λ rising. refl,
+    )
