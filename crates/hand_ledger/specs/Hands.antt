@@ -5,12 +5,12 @@ use Rattle.std.specs.List.{sum_by}
 use Rattle.master_state.specs.declared.answers.Why.{Why}
 use Rattle.master_state.specs.declared.answers.Why.TheVariants.{HistoryFull, StrangeHand}
 use Rattle.master_state.specs.declared.events.Event.{Event}
-use Rattle.master_state.specs.declared.events.Event.TheVariants.{Wave, Sweep}
+use Rattle.master_state.specs.declared.events.Event.TheVariants.{Ahead, Wave, Sweep}
 use Rattle.master_state.specs.declared.states.Limits.{Limits}
 use Rattle.master_state.specs.declared.states.Start.{Start}
 
--- an accepted call: its place in the history and its event, with a sweep's count of each worker or a wave's
--- starts
+-- an accepted call: its place in the history and its event, with a sweep's count of each worker or the starts
+-- of a wave or of a plan ahead
 pub record Kept : Type 0 where
   pub place : ℕ
   pub event : Event
@@ -43,13 +43,14 @@ pub record HandsValue : Type 0 where
   pub total : ℕ
   pub made : ℕ
 
--- how many counts, and how many starts, stand for an event (a hand has no call for a plan ahead)
+-- how many counts, and how many starts, stand for an event
 abbrev pub counts_in : Event → ℕ
 counts_in (Sweep place) = 1
 counts_in event = 0
 
 abbrev pub starts_in : Event → ℕ
 starts_in (Wave first count cost) = count
+starts_in (Ahead first count cost) = count
 starts_in event = 0
 
 -- the counts of all calls

@@ -4,7 +4,7 @@ use Rattle.std.specs.Prelude.{length, take, drop, filter, Option, None, Some, sl
 use Rattle.std.specs.List.{flat_map}
 use Rattle.std.specs.Option.{option_map_or}
 use Rattle.master_state.specs.declared.events.Event.{Event}
-use Rattle.master_state.specs.declared.events.Event.TheVariants.{Wave, Sweep}
+use Rattle.master_state.specs.declared.events.Event.TheVariants.{Ahead, Wave, Sweep}
 use Rattle.master_state.specs.declared.states.Start.{Start}
 use Rattle.hand_ledger.specs.Hands.{Kept, kept, HandValue}
 
@@ -19,13 +19,14 @@ abbrev pub event_at : List Event → ℕ → Option Event
 event_at history zero = None
 event_at history (suc k) = slice_get history k
 
--- the counts of a sweep, and the starts of a wave
+-- the counts of a sweep, and the starts of a wave or of a plan ahead
 abbrev pub counts_at : LogValue → Event → List (List ℕ)
 counts_at log (Sweep place) = take 1 (drop (place - 1) log.sweeps)
 counts_at log event = []
 
 abbrev pub starts_at : LogValue → Event → List Start
 starts_at log (Wave first count cost) = take count (drop (first - 1) log.starts)
+starts_at log (Ahead first count cost) = take count (drop (first - 1) log.starts)
 starts_at log event = []
 
 -- the call at a place, as a hand keeps it; none past the last event

@@ -82,12 +82,12 @@ impl<'a> Log<'a> {
         }
     }
 
-    // The starts of a wave.
+    // The starts of a wave or of a plan ahead.
     fn starts_at(&self, event: &Event<'_>) -> &'a [Start]
         ensures { result.now ≡ starts_at self.now event.now }
     {
         match event {
-            Event::Wave { first, count, .. } => {
+            Event::Wave { first, count, .. } | Event::Ahead { first, count, .. } => {
                 part(
                     self.starts,
                     first.index().saturating_sub(1),
@@ -127,7 +127,7 @@ pub(crate) fn starts_in(event: &Event<'_>) -> usize
     ensures bound { result < 2 ^ 32 }
 {
     match event {
-        Event::Wave { count, .. } => *count as usize,
+        Event::Wave { count, .. } | Event::Ahead { count, .. } => *count as usize,
         _ => 0,
     }
 }
