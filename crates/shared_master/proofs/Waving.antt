@@ -15,17 +15,18 @@ use Rattle.std.proofs.Math.Seq.{drop-append_seam}
 use Rattle.std.proofs.lemmas.List.{append-nil, length-append, length-drop, length-map}
 use Rattle.std.proofs.lemmas.List.Elements.{All-cons, All-head, All-nil, All-tail}
 use Rattle.std.proofs.lemmas.Slice.Zip.{length-zip}
-use Rattle.wave_problem.specs.Assignment.{IsBest, Plan, pairs_from, pairs_of}
+use Rattle.wave_problem.specs.Assignment.{IsAssignment, IsBest, Plan, pairs_from, pairs_of}
 use Rattle.wave_problem.proofs.Bound.{pending_known}
 use Rattle.wave_problem.specs.Wave as wave
 use Rattle.price_certificate.specs.PriceList.{PriceList}
 use Rattle.master_state.specs.declared.answers.Wave.{Wave}
-use Rattle.master_state.specs.declared.events.Event.TheVariants as events
+use Rattle.master_state.specs.declared.events.Event.{Event}
 use Rattle.master_state.specs.declared.states.Work.TheVariants as works
 use Rattle.master_state.specs.declared.states.Start.{Start}
-use Rattle.master_state.specs.States.{Setup, State}
-use Rattle.master_state.specs.Changes.{split_started}
-use Rattle.master_state.specs.Jobs.{IsCommitted, IsKept, Job, LacksRoomForBest, present}
+use Rattle.master_state.specs.States.{Setup, State, next_attempt}
+use Rattle.master_state.specs.Changes.{after_wave, split_started}
+use Rattle.master_state.specs.Jobs.{IsCommitted, IsCommittedAhead, IsKept, IsNext, Job, LacksRoomForBest}
+use Rattle.master_state.specs.Jobs.{present}
 use Rattle.master_state.specs.Steps.{problem_of, split_line}
 use Rattle.master_state.specs.Refusals.{has_no_room, is_full}
 use Rattle.master_state.specs.Tidy.{IsStartOf}
@@ -39,12 +40,13 @@ use Rattle.shared_master.specs.declared.waves.WaveError.{WaveError}
 use Rattle.shared_master.specs.declared.waves.WaveError.TheVariants.{HistoryFull, Memory, StrangeHand}
 use Rattle.shared_master.specs.Held.{IsMasterOf}
 use Rattle.shared_master.specs.Steps.{IsOwn}
-use Rattle.shared_master.specs.Waves.{CommitsAs, FitsSizes, IsAsked, IsKeptWave, IsMadeOf, IsMapStart}
+use Rattle.shared_master.specs.Waves.{AreKeptAs, AreShared, CommitsAs, FitsSizes, IsAsked, IsKeptWave}
+use Rattle.shared_master.specs.Waves.{IsMadeOf, IsMapStart}
 use Rattle.shared_master.specs.Waves.{IsNoWaveOf}
 use Rattle.shared_master.specs.Waves.{IsLastWave, IsSharedWave, IsSolved, IsUnasked, IsUncommitted}
 use Rattle.shared_master.specs.Waves.{IsUnplanned}
-use Rattle.shared_master.specs.Waves.{IsMadeIn, PlansAs, SolvesAs, WavesAs, has_room_for, kept_wave}
-use Rattle.shared_master.specs.Waves.{noted_wave}
+use Rattle.shared_master.specs.Waves.{IsMadeIn, PlansAs, SolvesAs, WavesAs, ahead_event, has_room_for}
+use Rattle.shared_master.specs.Waves.{kept_as, noted_wave, wave_event}
 use Rattle.shared_master.proofs.Stepping.{own_within}
 
 both_first : (a b : Bool) → (a && b) ≡ true → a ≡ true
@@ -63,26 +65,71 @@ few_attempts old count first room small is =
     ltb-false _ _ (second_false (is_full old.setup old.state) _ room) in
     omega arith
 
+-- what waves and plans ahead have in common: an event started this plan
+pub record AreStarted (old : Job) (event : Event) (plan : List (Option ℕ)) (wave : Wave) (new : Job)
+    : Type 0 where
+  pub leads : new.state ≡ after_wave old.state (pairs_of plan)
+  pub first_is : wave.first ≡ next_attempt old.state
+  pub count_is : wave.count ≡ length (pairs_of plan)
+  pub room : has_no_room old.setup old.state (length (pairs_of plan)) ≡ false
+  pub next : IsNext old event [] wave.place new
+
+pub by_wave : (old : Job) (plan : List (Option ℕ)) (wave : Wave) (new : Job) → IsCommitted old plan wave new →
+    AreStarted old (wave_event wave) plan wave new
+by_wave old plan wave new committed = record {
+  leads = committed.change.leads;
+  first_is = committed.change.first_is;
+  count_is = committed.change.count_is;
+  room = committed.change.room;
+  next = committed.next;
+}
+
+pub by_ahead : (old : Job) (asked : List ℕ) (plan starts : List (Option ℕ)) (wave : Wave) (new : Job) →
+    IsCommittedAhead old asked plan starts wave new → AreStarted old (ahead_event wave) starts wave new
+by_ahead old asked plan starts wave new committed = record {
+  leads = committed.change.leads;
+  first_is = committed.change.first_is;
+  count_is = committed.change.count_is;
+  room = committed.change.room;
+  next = committed.next;
+}
+
+-- starts that are shared are kept
+pub starts_kept : (setup : Setup) (old : Job) (hand : HandValue) (event : Event) (plan : List (Option ℕ))
+    (shared : SharedWave) (new : Job) (after : HandValue) → IsMasterOf setup old →
+    AreStarted old event plan shared.wave new → AreShared old hand event plan shared new after →
+    AreKeptAs setup hand event shared after
+starts_kept setup old hand event plan shared new after of_job started shares =
+    let above : last_place hand.calls < shared.wave.place =
+    grind (arith, own_within old hand shares.own, started.next.place_is) in
+    let room : has_room hand 0 (length shared.starts.items) ≡ true =
+    ap (has_room hand 0) (shares.count ∙ started.count_is) ∙ both_first _ _ shares.room in
+    record {
+      hand_is = shares.hand_is;
+      above = above;
+      room = room;
+      count = shares.count;
+      few = few_attempts old (length shared.starts.items) shared.wave.first
+          (subst (λ (n : ℕ). has_no_room old.setup old.state n ≡ false)
+          (sym (shares.count ∙ started.count_is)) started.room)
+          of_job.kept.small.attempts started.first_is;
+      maps = subst (λ (z : Setup). All (IsMapStart z) shared.starts.items) of_job.given shares.maps;
+    }
+
 pub wave_kept : (setup : Setup) (old : Job) (hand : HandValue) (plan : List (Option ℕ)) (prices : PriceList)
     (shared : SharedWave) (new : Job) (after : HandValue) → IsMasterOf setup old
     → IsMadeOf setup plan prices →
     IsSharedWave old hand plan prices shared new after → IsKeptWave setup hand shared after
 wave_kept setup old hand plan prices shared new after of_job made wave =
-    let above : last_place hand.calls < shared.wave.place =
-    grind (arith, own_within old hand wave.own, wave.committed.next.place_is) in
-    let room : has_room hand 0 (length shared.starts.items) ≡ true =
-    ap (has_room hand 0) (wave.count ∙ wave.committed.change.count_is)
-    ∙ both_first _ _ wave.room in
+    let kept = starts_kept setup old hand (wave_event shared.wave) plan shared new after of_job
+    (by_wave old plan shared.wave new wave.committed) wave.shares in
     record {
-      hand_is = wave.hand_is;
-      above = above;
-      room = room;
-      count = wave.count;
-      few = few_attempts old (length shared.starts.items) shared.wave.first
-          (subst (λ (n : ℕ). has_no_room old.setup old.state n ≡ false)
-          (sym (wave.count ∙ wave.committed.change.count_is)) wave.committed.change.room)
-          of_job.kept.small.attempts wave.committed.change.first_is;
-      maps = subst (λ (z : Setup). All (IsMapStart z) shared.starts.items) of_job.given wave.maps;
+      hand_is = kept.hand_is;
+      above = kept.above;
+      room = kept.room;
+      count = kept.count;
+      few = kept.few;
+      maps = kept.maps;
       of_job = record {
         old = old;
         new = new;
@@ -120,47 +167,52 @@ all_maps setup (pair ∷ pairs) known =
     (record { work = first.work; worker = first.worker })
     (all_maps setup pairs (λ k d l. known (suc k) d (omega (arith, l))))
 
-pub map_starts : (old : Job) (plan : List (Option ℕ)) (wave : Wave) (new : Job) →
-    IsCommitted old plan wave new → IsKept new →
+pub map_starts : (old : Job) (event : Event) (plan : List (Option ℕ)) (wave : Wave) (new : Job) →
+    AreStarted old event plan wave new → IsKept new →
     All (IsMapStart old.setup) (drop (wave.first - 1) new.state.starts)
-map_starts old plan wave new committed kept =
+map_starts old event plan wave new is kept =
     let maps = map started (pairs_of plan) in
     let starts : new.state.starts ≡ old.state.starts ++ maps =
-    ap (λ (s : State). s.starts) committed.change.leads ∙ all_started old.state (pairs_of plan) in
-    let before : wave.first - 1 ≡ length old.state.starts = omega (arith, committed.change.first_is) in
+    ap (λ (s : State). s.starts) is.leads ∙ all_started old.state (pairs_of plan) in
+    let before : wave.first - 1 ≡ length old.state.starts = omega (arith, is.first_is) in
     let from : drop (wave.first - 1) new.state.starts ≡ maps =
     (λ k. drop (before k) (starts k)) ∙ drop-append_seam old.state.starts maps in
     let known : All (IsStartOf new.setup) maps =
     All-right (IsStartOf new.setup) old.state.starts maps
     (subst (λ (l : List Start). All (IsStartOf new.setup) l) starts kept.tidy.known) in
     let known : All (IsStartOf old.setup) maps =
-    subst (λ (z : Setup). All (IsStartOf z) maps) committed.next.setup known in
+    subst (λ (z : Setup). All (IsStartOf z) maps) is.next.setup known in
     subst (λ (l : List Start). All (IsMapStart old.setup) l) (sym from)
     (all_maps old.setup (pairs_of plan) known)
 
-pub first_within : (old : Job) (plan : List (Option ℕ)) (wave : Wave) (new : Job) →
-    IsCommitted old plan wave new → wave.first - 1 ≤ length new.state.starts
-first_within old plan wave new committed = grind (arith, length-started)
-
-pub starts_counted : (old : Job) (plan : List (Option ℕ)) (wave : Wave) (new : Job) →
-    IsCommitted old plan wave new →
-    length (drop (wave.first - 1) new.state.starts) ≡ wave.count
-starts_counted old plan wave new committed = grind (arith, length-started, length-drop)
-
--- a wave that was committed is the last of its master
-pub last_wave : (old : Job) (plan : List (Option ℕ)) (wave : Wave) (new : Job) →
-    IsCommitted old plan wave new → IsLastWave new wave
-last_wave old plan wave new committed = record {
-  place = omega (
-    arith,
-    committed.next.place_is,
-    ap length committed.next.history,
-    length-append old.history (events.Wave wave.first wave.count wave.cost ∷ []),
-  );
-  first = omega (arith, committed.change.first_is);
-  within = first_within old plan wave new committed;
-  count = starts_counted old plan wave new committed;
+-- what an event started is the last of its master
+pub last_wave : (old : Job) (event : Event) (plan : List (Option ℕ)) (wave : Wave) (new : Job) →
+    AreStarted old event plan wave new → IsLastWave new wave
+last_wave old event plan wave new is = record {
+  place = omega (arith, is.next.place_is, ap length is.next.history, length-append old.history (event ∷ []));
+  first = omega (arith, is.first_is);
+  within = grind (arith, is.leads, is.first_is, length-started);
+  count = grind (arith, is.leads, is.first_is, is.count_is, length-started, length-drop);
 }
+
+-- starts under the lock, which the hand keeps with their event
+pub shared_starts : (old : Job) (hand : HandValue) (event : Event) (plan : List (Option ℕ))
+    (shared : SharedWave) (new : Job) (after : HandValue) → IsOwn old hand →
+    has_room hand 0 shared.wave.count ≡ true → AreStarted old event plan shared.wave new → IsKept new →
+    shared.starts.items ≡ drop (shared.wave.first - 1) new.state.starts →
+    after ≡ with_call hand (kept_as event shared) → AreShared old hand event plan shared new after
+shared_starts old hand event plan shared new after own room is kept starts hand_is =
+    let fits : has_room hand 0 (length (pairs_of plan)) ≡ true =
+    ap (has_room hand 0) (sym is.count_is) ∙ room in
+    record {
+      own = own;
+      room = (λ k. fits k && not (is.room k));
+      starts = starts;
+      count = ap length starts ∙ (last_wave old event plan shared.wave new is).count;
+      maps = subst (λ (l : List Start). All (IsMapStart old.setup) l) (sym starts)
+          (map_starts old event plan shared.wave new is kept);
+      hand_is = hand_is;
+    }
 
 -- a plan that was committed under the lock, with its starts
 pub shared_wave : (inside old : Job) (hand : HandValue) (plan : List (Option ℕ)) (prices : PriceList)
@@ -168,27 +220,20 @@ pub shared_wave : (inside old : Job) (hand : HandValue) (plan : List (Option ℕ
     has_room hand 0 wave.count ≡ true →
     Certifies (present inside plan prices) × IsCommitted inside plan wave new → IsKept new →
     shared.wave ≡ wave → shared.starts.items ≡ drop (wave.first - 1) new.state.starts →
-    after ≡ with_call hand (kept_wave shared) → IsSharedWave old hand plan prices shared new after
+    after ≡ with_call hand (kept_as (wave_event wave) shared) →
+    IsSharedWave old hand plan prices shared new after
 shared_wave inside old hand plan prices wave shared new after same own room is kept tells starts hand_is =
-    let certified : Certifies (present old plan prices) =
-    subst (λ j. Certifies (present j plan prices)) same is.0 in
     let committed : IsCommitted old plan shared.wave new =
     subst (λ (w : Wave). IsCommitted old plan w new) (sym tells)
     (subst (λ j. IsCommitted j plan wave new) same is.1) in
-    let starts : shared.starts.items ≡ drop (shared.wave.first - 1) new.state.starts =
-    starts ∙ ap (λ (w : Wave). drop (w.first - 1) new.state.starts) (sym tells) in
-    let fits : has_room hand 0 (length (pairs_of plan)) ≡ true =
-    ap (has_room hand 0) (sym committed.change.count_is ∙ ap (λ (w : Wave). w.count) tells) ∙ room in
     record {
-      own = own;
-      room = (λ k. fits k && not (committed.change.room k));
-      certified = certified;
+      certified = subst (λ j. Certifies (present j plan prices)) same is.0;
       committed = committed;
-      starts = starts;
-      count = ap length starts ∙ starts_counted old plan shared.wave new committed;
-      maps = subst (λ (l : List Start). All (IsMapStart old.setup) l) (sym starts)
-          (map_starts old plan shared.wave new committed kept);
-      hand_is = hand_is;
+      shares = shared_starts old hand (wave_event shared.wave) plan shared new after own
+          (ap (λ (w : Wave). has_room hand 0 w.count) tells ∙ room)
+          (by_wave old plan shared.wave new committed) kept
+          (starts ∙ ap (λ (w : Wave). drop (w.first - 1) new.state.starts) (sym tells))
+          (hand_is ∙ ap (λ (w : Wave). with_call hand (kept_as (wave_event w) shared)) (sym tells));
     }
 
 -- rising pairs of splits below n are no more than n
@@ -202,10 +247,10 @@ rising_few n k (Some w ∷ plan) below =
     (All-tail (λ (pair : ℕ × ℕ). pair.0 < n) (k, w) (pairs_from (k + 1) plan) below) in
     omega (arith, here, more)
 
--- a best plan starts no more splits than the cluster has
-pub best_few : (setup : Setup) (s : State) (plan : List (Option ℕ)) →
-    IsBest (problem_of setup s) (pairs_of plan) → length (pairs_of plan) ≤ length setup.cluster.splits
-best_few setup s plan best =
+-- an assignment starts no more splits than the cluster has
+pub assigned_few : (setup : Setup) (s : State) (plan : List (Option ℕ)) →
+    IsAssignment (problem_of setup s) (pairs_of plan) → length (pairs_of plan) ≤ length setup.cluster.splits
+assigned_few setup s plan assigned =
     let wave = problem_of setup s in
     let few : length wave.splits ≤ length setup.cluster.splits = omega (
       arith,
@@ -215,7 +260,7 @@ best_few setup s plan best =
       length-zip setup.cluster.splits s.splits,
     ) in
     let rising = rising_few (length wave.splits) 0 plan
-    (λ i d inside. pending_known wave _ (best.assignment.admissible i d inside).pending) in
+    (λ i d inside. pending_known wave _ (assigned.admissible i d inside).pending) in
     omega (arith, few, rising)
 
 -- a wave starts no more
@@ -224,7 +269,7 @@ pub wave_few : (old : Job) (plan : List (Option ℕ)) (wave : Wave) (new : Job) 
 wave_few old plan wave new committed = omega (
   arith,
   committed.change.count_is,
-  best_few old.setup old.state plan committed.change.best,
+  assigned_few old.setup old.state plan committed.change.best.assignment,
 )
 
 -- so a hand that has room for as many starts as there are splits has room for any wave
@@ -241,7 +286,7 @@ pub planned_as : (inside old : Job) (hand : HandValue) (plan : List (Option ℕ)
     has_room hand 0 (length old.setup.cluster.splits) ≡ true → IsMadeIn inside plan prices →
     Certifies (present inside plan prices) → IsCommitted inside plan wave new → IsKept new →
     shared.wave ≡ wave → shared.starts.items ≡ drop (wave.first - 1) new.state.starts →
-    after ≡ with_call hand (kept_wave shared) → PlansAs old hand (Ok shared) new after
+    after ≡ with_call hand (kept_as (wave_event wave) shared) → PlansAs old hand (Ok shared) new after
 planned_as inside old hand plan prices wave shared new after same own room made certifies committed kept
     tells starts
     hand_is =
@@ -265,7 +310,7 @@ unplanned_as inside old hand same own lacks =
     (own, inr (here.plan, here.best, full))
 
 -- what a hand notes of an error, by the number of the job's splits
-noted_of : (setup : Setup) (job : Job) (hand after : HandValue) (e : WaveError) → IsMasterOf setup job →
+pub noted_of : (setup : Setup) (job : Job) (hand after : HandValue) (e : WaveError) → IsMasterOf setup job →
     after ≡ noted_wave (length job.setup.cluster.splits) hand e →
     after ≡ noted_wave (length setup.cluster.splits) hand e
 noted_of setup job hand after e of_job is =

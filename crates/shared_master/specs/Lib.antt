@@ -1,3 +1,4 @@
+pub mod Aheads
 pub mod Held
 pub mod Steps
 pub mod Waves

@@ -11,6 +11,7 @@ use Rattle.price_certificate.specs.PriceList.{PriceList}
 use Rattle.master_state.specs.declared.answers.Wave as answers
 use Rattle.master_state.specs.declared.answers.Why.{Why}
 use Rattle.master_state.specs.declared.answers.Why.TheVariants as whys
+use Rattle.master_state.specs.declared.events.Event.{Event}
 use Rattle.master_state.specs.declared.events.Event.TheVariants as events
 use Rattle.master_state.specs.declared.states.Start.{Start}
 use Rattle.master_state.specs.declared.states.Work.{Work}
@@ -82,11 +83,16 @@ abbrev pub noted_commit : ℕ → HandValue → Uncommitted → HandValue
 noted_commit splits hand (uncommitted.Refused error) = noted_wave splits hand error
 noted_commit splits hand (uncommitted.Stale c) = hand
 
--- a wave as a hand keeps it
-abbrev pub kept_wave : SharedWave → Kept
-kept_wave shared =
-    kept shared.wave.place (events.Wave shared.wave.first shared.wave.count shared.wave.cost) []
-    shared.starts.items
+-- the event of a wave, and that of a plan ahead
+abbrev pub wave_event : answers.Wave → Event
+wave_event wave = events.Wave wave.first wave.count wave.cost
+
+abbrev pub ahead_event : answers.Wave → Event
+ahead_event wave = events.Ahead wave.first wave.count wave.cost
+
+-- starts as a hand keeps them with their event
+abbrev pub kept_as : Event → SharedWave → Kept
+kept_as event shared = kept shared.wave.place event [] shared.starts.items
 
 -- a split of the job, and not a part
 abbrev pub IsSplitOf : Setup → Work → Type 0
@@ -105,19 +111,25 @@ pub record IsLastWave (job : Job) (wave : answers.Wave) : Type 0 where
   pub within : wave.first - 1 ≤ length job.state.starts
   pub count : length (drop (wave.first - 1) job.state.starts) ≡ wave.count
 
--- The plan was committed under the lock: it is certified in the state that it changes, its starts are
--- answered, and the hand keeps it.
-pub record IsSharedWave
-    (old : Job) (hand : HandValue) (plan : List (Option ℕ)) (prices : PriceList)
-    (shared : SharedWave) (new : Job) (after : HandValue) : Type 0 where
+-- Starts were made under the lock: they are answered, and the hand, which had room, keeps them with their
+-- event.
+pub record AreShared
+    (old : Job) (hand : HandValue) (event : Event) (plan : List (Option ℕ)) (shared : SharedWave) (new : Job)
+    (after : HandValue) : Type 0 where
   pub own : IsOwn old hand
   pub room : has_room_for old hand plan ≡ true
-  pub certified : Certifies (present old plan prices)
-  pub committed : IsCommitted old plan shared.wave new
   pub starts : shared.starts.items ≡ drop (shared.wave.first - 1) new.state.starts
   pub count : length shared.starts.items ≡ shared.wave.count
   pub maps : All (IsMapStart old.setup) shared.starts.items
-  pub hand_is : after ≡ with_call hand (kept_wave shared)
+  pub hand_is : after ≡ with_call hand (kept_as event shared)
+
+-- The plan was committed under the lock: it is certified in the state that it changes.
+pub record IsSharedWave
+    (old : Job) (hand : HandValue) (plan : List (Option ℕ)) (prices : PriceList)
+    (shared : SharedWave) (new : Job) (after : HandValue) : Type 0 where
+  pub certified : Certifies (present old plan prices)
+  pub committed : IsCommitted old plan shared.wave new
+  pub shares : AreShared old hand (wave_event shared.wave) plan shared new after
 
 -- what a commit under the lock answers
 abbrev pub CommitsAs : Job → HandValue → List (Option ℕ) → PriceList →
@@ -174,11 +186,22 @@ pub record IsWaveOf (setup : Setup) (hand : HandValue) (shared : SharedWave) (af
   pub made : IsMadeOf setup plan prices
   pub wave : IsSharedWave old hand plan prices shared new after
 
--- what the caller of a wave sees: it is kept with its starts, above the hand's last call, and the hand had
--- room
+-- what the caller of starts sees: they are kept with their event, above the hand's last call, and the hand
+-- had room
+pub record AreKeptAs
+    (setup : Setup) (hand : HandValue) (event : Event) (shared : SharedWave) (after : HandValue)
+    : Type 0 where
+  pub hand_is : after ≡ with_call hand (kept_as event shared)
+  pub above : last_place hand.calls < shared.wave.place
+  pub room : has_room hand 0 (length shared.starts.items) ≡ true
+  pub count : length shared.starts.items ≡ shared.wave.count
+  pub few : shared.wave.first + length shared.starts.items < 2 ^ 32
+  pub maps : All (IsMapStart setup) shared.starts.items
+
+-- and the caller of a wave
 pub record IsKeptWave (setup : Setup) (hand : HandValue) (shared : SharedWave) (after : HandValue)
     : Type 0 where
-  pub hand_is : after ≡ with_call hand (kept_wave shared)
+  pub hand_is : after ≡ with_call hand (kept_as (wave_event shared.wave) shared)
   pub above : last_place hand.calls < shared.wave.place
   pub room : has_room hand 0 (length shared.starts.items) ≡ true
   pub count : length shared.starts.items ≡ shared.wave.count

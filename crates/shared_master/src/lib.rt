@@ -9,6 +9,7 @@
 //! `hand_ledger`, and on the ledgers of std.
 #![tactic(auto)]
 
+mod aheads;
 mod calls;
 pub mod closed;
 pub mod glance;

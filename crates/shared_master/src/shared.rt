@@ -1,8 +1,10 @@
-ghost use Rattle.std.specs.Prelude.{◌≡◌, ◌<◌, ◌≤◌, [], ◌∷◌, length, IfOk};
+ghost use Rattle.std.specs.Prelude.{◌≡◌, ◌<◌, ◌≤◌, [], ◌∷◌, length, All, IfOk};
+ghost use Rattle.wave_problem.specs.declared.TheConstants.{MAX_SLOTS};
 ghost use Rattle.master_state.specs.declared.events.Event.{Event};
 ghost use Rattle.master_state.specs.Jobs.{GivesBack};
 ghost use Rattle.master_state.specs.Refusals.{Call};
 ghost use Rattle.hand_ledger.specs.Hands.{new_hand};
+ghost use Rattle.shared_master.specs.Aheads.{AheadsAs, IsAheadStepOf};
 ghost use Rattle.shared_master.specs.Held.{AreCopiesOf, IsBackupWorkerOf, IsMasterOf, IsShownOf};
 ghost use Rattle.shared_master.specs.Steps.{AreDeadOf, AreSizesOf, IsKeptAs, IsKeptBackup, IsKeptReduce};
 ghost use Rattle.shared_master.specs.Steps.{IsKeptSweep, IsKnownTo, IsReduceStepOf, IsStepOf, Replies};
@@ -331,6 +333,24 @@ impl<L: Ledger + OfJob> SharedMaster<L> {
         ensures step { IsWaveStepOf L.setup hand.old result hand.new }
     {
         self.lock.lock(rt).start_best(alloc, hand)
+    }
+
+    /// `Master::start_ahead` under the lock: in one hold it plans all pending splits onto the workers' queues,
+    /// with as many places as are asked for, and starts the heads. None is made where the last event is such a
+    /// plan, since what that left waits for a slot. The hand must have room for as many starts as there are
+    /// splits.
+    pub fn start_ahead<R: Wait>(
+        &self,
+        rt: &R,
+        alloc: Global,
+        hand: &mut Hand<L>,
+        asked: &[u64],
+    ) -> Result<Option<SharedWave>, WaveError>
+        requires { All (λ n. n ≤ MAX_SLOTS) asked.now }
+        ensures kept { AheadsAs L.setup hand.old result hand.new }
+        ensures step { IsAheadStepOf L.setup hand.old asked.now result hand.new }
+    {
+        self.lock.lock(rt).start_ahead(alloc, hand, asked)
     }
 
     // Plans a wave while the lock is free, and commits it; none where it is stale by then.

@@ -1,4 +1,4 @@
-ghost use Rattle.std.specs.Prelude.{◌≡◌, ◌+◌, ◌-◌, ◌<◌, ◌≤◌, [], ◌++◌, drop, length, true};
+ghost use Rattle.std.specs.Prelude.{◌≡◌, ◌+◌, ◌-◌, ◌<◌, ◌≤◌, ◌⊎◌, [], ◌++◌, drop, length, true};
 ghost use Rattle.std.specs.Prelude.{vec_capacity, vec_len};
 ghost use Rattle.std.specs.Prelude.{Err, IfOk, MatchResult};
 ghost use Rattle.flow_network.specs.declared.kinds.NetworkKind.{NetworkKind};
@@ -9,7 +9,7 @@ ghost use Rattle.hand_ledger.specs.Hands.{has_room, with_call};
 ghost use Rattle.shared_master.specs.declared.waves.WaveError.{WaveError};
 ghost use Rattle.shared_master.specs.Held.{IsMasterOf};
 ghost use Rattle.shared_master.specs.Waves.{CommitsAs, FitsSizes, has_place, IsAsked, IsLastWave, IsUnasked};
-ghost use Rattle.shared_master.specs.Waves.{PlansAs, kept_wave, noted_wave, why_of};
+ghost use Rattle.shared_master.specs.Waves.{PlansAs, ahead_event, kept_as, noted_wave, wave_event, why_of};
 
 use crate::held::Held;
 use crate::of_job::OfJob;
@@ -23,7 +23,7 @@ use std::sync::ledger::Ledger;
 use wave_planner::{Planned, plan};
 use wave_problem::Problem;
 
-/// A wave that was committed, and its starts by rising split.
+/// A wave or the heads of a plan ahead, and the starts by rising split.
 #[derive(Drop)]
 pub struct SharedWave {
     pub wave: Wave,
@@ -132,7 +132,7 @@ impl<L: Ledger + OfJob> Held<L> {
     }
 
     // How many splits the job has.
-    fn splits(&self) -> usize
+    pub(crate) fn splits(&self) -> usize
         ensures { result ≡ length self.now.job.setup.cluster.splits }
     {
         self.master.cluster().splits().len()
@@ -182,7 +182,8 @@ impl<L: Ledger + OfJob> Held<L> {
         // (its starts are of this cluster)
         self.master.is_kept();
         let starts = solved.into_starts();
-        Ok(keep_wave(&self.master, &mut self.hands, hand, wave, starts))
+        let event = wave_event(&wave);
+        Ok(keep_starts(&self.master, &mut self.hands, hand, wave, &event, starts))
     }
 
     // Plans a wave and commits it in one hold of the lock.
@@ -251,48 +252,50 @@ impl<L: Ledger + OfJob> Held<L> {
         };
         // (its starts are of this cluster)
         self.master.is_kept();
-        Ok(keep_wave(&self.master, &mut self.hands, hand, wave, starts))
+        let event = wave_event(&wave);
+        Ok(keep_starts(&self.master, &mut self.hands, hand, wave, &event, starts))
     }
 }
 
-// Keeps a wave, which is the last event of a master, in the hand with its starts.
-fn keep_wave<L: Ledger>(
+// The event of a wave.
+fn wave_event(wave: &Wave) -> Event<'static>
+    ensures { result ≡ wave_event wave.now }
+{
+    Event::Wave {
+        first: wave.first,
+        count: wave.count,
+        cost: wave.cost,
+    }
+}
+
+// Keeps the last event of a master, a wave or a plan ahead, in the hand with its starts.
+pub(crate) fn keep_starts<L: Ledger>(
     master: &Master,
     hands: &mut Hands<L>,
     hand: &mut Hand<L>,
     wave: Wave,
+    event: &Event<'_>,
     starts: Vec<Start>,
 ) -> SharedWave
     requires last { IsLastWave master.now wave }
+    requires event { (event.now ≡ wave_event wave) ⊎ (event.now ≡ ahead_event wave) }
     requires empty { starts.items ≡ [] }
     requires fits { wave.count ≤ vec_capacity starts }
     requires room { has_room hand.old 0 wave.count ≡ true }
     ensures wave { result.wave ≡ wave }
     ensures starts { result.starts.items ≡ drop (wave.first - 1) master.now.state.starts }
-    ensures hand { hand.new ≡ with_call hand.old (kept_wave result) }
+    ensures hand { hand.new ≡ with_call hand.old (kept_as event.now result) }
     ensures total { hands.new.total ≡ hands.old.total + 1 }
     ensures made { hands.new.made ≡ hands.old.made }
 {
-    let Wave {
-        first,
-        count,
-        cost,
-        ..
-    } = wave;
-    let starts = with_all(starts, starts_from(master, first));
-    // (its event is the last)
-    hand.keep(
-        hands,
-        master.events(),
-        &Event::Wave { first, count, cost },
-        None,
-        &starts,
-    );
+    let starts = with_all(starts, starts_from(master, wave.first));
+    // (the event is the last)
+    hand.keep(hands, master.events(), event, None, &starts);
     SharedWave { wave, starts }
 }
 
 // Notes why a wave came to nothing.
-fn refused<L: Ledger>(hand: &mut Hand<L>, splits: usize, error: WaveError) -> WaveError
+pub(crate) fn refused<L: Ledger>(hand: &mut Hand<L>, splits: usize, error: WaveError) -> WaveError
     ensures error { result ≡ error }
     ensures hand { hand.new ≡ noted_wave splits hand.old error }
 {
