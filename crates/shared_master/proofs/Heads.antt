@@ -54,16 +54,19 @@ queued_as inside old hand asked plan starts wave shared new after same own ready
     subst (λ (w : Wave). IsCommittedAhead old asked plan starts w new) (sym tells)
     (subst (λ (j : Job). IsCommittedAhead j asked plan starts wave new) same is) in (
       ready,
-      plan,
-      starts,
-      record {
-        committed = committed;
-        shares = shared_starts old hand (ahead_event shared.wave) starts shared new after own
-            (ap (λ (w : Wave). has_room hand 0 w.count) tells ∙ room)
-            (by_ahead old asked plan starts shared.wave new committed) kept
-            (started ∙ ap (λ (w : Wave). drop (w.first - 1) new.state.starts) (sym tells))
-            (hand_is ∙ ap (λ (w : Wave). with_call hand (kept_as (ahead_event w) shared)) (sym tells));
-      },
+      (
+        plan,
+        starts,
+        record {
+          committed = committed;
+          shares = shared_starts old hand (ahead_event shared.wave) starts shared new after own
+              (ap (λ (w : Wave). has_room hand 0 w.count) tells ∙ room)
+              (by_ahead old asked plan starts shared.wave new committed) kept
+              (started ∙ ap (λ (w : Wave). drop (w.first - 1) new.state.starts) (sym tells))
+              (hand_is
+              ∙ ap (λ (w : Wave). with_call hand (kept_as (ahead_event w) shared)) (sym tells));
+        },
+      ),
     )
 
 -- what planning ahead in one hold says to the caller
