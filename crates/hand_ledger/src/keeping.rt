@@ -191,8 +191,8 @@ impl<L: Ledger> Hand<L> {
         }
     }
 
-    /// Keeps an accepted call that is no join, one more of all hands: a sweep with its counts, a wave with
-    /// its starts.
+    /// Keeps an accepted call that is no join, one more of all hands: a sweep with its counts, a wave or a plan
+    /// ahead with its starts.
     pub fn keep(
         &mut self,
         hands: &mut Hands<L>,
