@@ -2,7 +2,8 @@
 //!
 //! One lock keeps a master of the job that its type names (`OfJob`), with what is kept of its hands; each
 //! thread calls with a hand of its own, which keeps what was accepted of it. Waves are planned while the lock
-//! is free, and certified in the state in which they are committed, or are planned and committed in one hold.
+//! is free, and certified in the state in which they are committed, or are planned and committed in one hold,
+//! as plans ahead are.
 //! Upward the layer promises that each call under the lock is one of the master's, that what it answers is of
 //! this job, that a hand keeps just the events of its accepted calls, and that `settle` says exactly whether a
 //! history is made of the calls of the hands that it is given. It stands on `master_core`, `wave_planner` and
