@@ -137,8 +137,9 @@ pub plans_problem : (network : NetworkKind) (with_prices : Bool) (ss ws : List W
     (plan_workers : ℕ) (lines : List ℕ) → length ss ≡ length c.wave.splits
     → length ws ≡ length c.wave.workers → (IsPast network c.wave → ⊥)
     → IsMadeOver network c.wave c.starts c.prices
-    → HasOneSize c plan_workers → Certifies c → IsBest c.wave (pairs_of c.starts)
-    → reward_of c < 2 ^ 64
+    → HasOneSize (claim c.wave c.starts c.prices) plan_workers → Certifies (claim c.wave c.starts c.prices)
+    → IsBest c.wave (pairs_of c.starts)
+    → reward_of (claim c.wave c.starts c.prices) < 2 ^ 64
     → lines ≡ (wave_line (plan_count c) (plan_cost c) ++ start_lines ss ws c.starts)
     ++ asked_prices with_prices ss ws c.prices
     → PlansProblem c.wave ss ws network with_prices lines
@@ -146,7 +147,8 @@ plans_problem network asked ss ws c n lines as_splits as_workers fits over sized
     record {
       starts = c.starts;
       prices = c.prices;
-      sized = plan_for_names ss ws c n as_splits as_workers sized certifies small;
+      sized = plan_for_names ss ws (claim c.wave c.starts c.prices) n as_splits as_workers sized certifies
+          small;
       fits = fits;
       over = over;
       says = record {
