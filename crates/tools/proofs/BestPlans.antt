@@ -138,8 +138,7 @@ pub plans_problem : (network : NetworkKind) (with_prices : Bool) (ss ws : List W
     → length ws ≡ length c.wave.workers → (IsPast network c.wave → ⊥)
     → IsMadeOver network c.wave c.starts c.prices
     → HasOneSize (claim c.wave c.starts c.prices) plan_workers → Certifies (claim c.wave c.starts c.prices)
-    → IsBest c.wave (pairs_of c.starts)
-    → reward_of (claim c.wave c.starts c.prices) < 2 ^ 64
+    → IsBest c.wave (pairs_of c.starts) → reward_of (claim c.wave c.starts c.prices) < 2 ^ 64
     → lines ≡ (wave_line (plan_count c) (plan_cost c) ++ start_lines ss ws c.starts)
     ++ asked_prices with_prices ss ws c.prices
     → PlansProblem c.wave ss ws network with_prices lines
