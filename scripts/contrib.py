@@ -593,7 +593,7 @@ def installed(count, program, room):
         words = said([program, name, "--help"])[0].decode().split()
         page = re.sub(r"\\(.)", lambda it: {"e": "\\", "&": ""}.get(it[1], it[1]),
                       (prefix / "share/man/man1/mrjob.1").read_text().replace("\\(aq", "'").replace("\\(ga", "`"))
-        missing = set(words) - set(page.split()) - {"Usage:", "Options:", "-h,", "<NETWORK>"}
+        missing = set(words) - set(page.split()) - {"Usage:", "Options:", "-h,", "<NETWORK>", "<N>"}
         count.expect(f"the manual page has the words of the help on {name}", missing, set())
     for path in sorted((prefix / "share/mrjob/contrib").glob("*.py")):
         same = path.read_bytes() == (CONTRIB / path.name).read_bytes()

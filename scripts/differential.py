@@ -64,6 +64,7 @@ def groups():
         yield kind, wrong_run, made(kind, count)
     for kind, count in RECORDED.items():
         yield f"recorded {kind}", wrong_history, made(kind, count)
+        yield f"recorded {kind} ahead", wrong_ahead, made(kind, count)
     yield "front", wrong_check, fronts("swap.txt")
     yield "front", wrong_check, fronts("dear_place.txt")
     yield "front", wrong_play, fronts("play_death.txt")
@@ -237,6 +238,14 @@ def wrong_history(program, text):
     said = said_by(program, ["run", "--history"], text)
     wrong = reference_run.misrecorded(text, *said)
     return f"it says {said}, but {wrong}" if wrong else None
+
+
+def wrong_ahead(program, text):
+    """The same of a run that is planned ahead, by one to three waves."""
+    ahead = 1 + len(text) % 3
+    said = said_by(program, ["run", "--history", "--ahead", str(ahead)], text)
+    wrong = reference_run.misrecorded(text, *said, ahead)
+    return f"with --ahead {ahead} it says {said}, but {wrong}" if wrong else None
 
 
 def wrong_death(program, text):

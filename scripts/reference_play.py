@@ -246,12 +246,16 @@ class Master:
             starts[split] = worker
         return starts, spent
 
+    def queued(self, places):
+        """The problem with these places, how many splits start on them, and at what cost."""
+        problem = Problem(self.given, self)
+        problem.free = [max(it) for it in zip(places, problem.free)]
+        return problem, *most_and_least(problem)
+
     def ahead(self, places, lines):
         """The lines of a plan ahead, whose starts are those of the report's own lines."""
-        problem = Problem(self.given, self)
-        whole = copy.copy(problem)
-        whole.free = [max(it) for it in zip(places, problem.free)]
-        accepted, (planned, total) = self.accepted(), most_and_least(whole)
+        problem, (whole, planned, total) = Problem(self.given, self), self.queued(places)
+        accepted = self.accepted()
         count = int("".join(lines[1:2]).removeprefix("ahead ").partition(" ")[0])
         starts, spent = self.started(problem, lines[3 : 3 + count])
         wanted = [*accepted, f"ahead {len(starts)} {spent}", f"queued {planned} {total}", *lines[3 : 3 + count]]

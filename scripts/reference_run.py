@@ -7,7 +7,7 @@ itself: copies, returns and backups.
 from copy import deepcopy
 from itertools import takewhile
 
-from reference_play import Master, Problem, Wrong
+from reference_play import Master, Wrong
 from reference_text import Fault, read
 
 
@@ -35,21 +35,26 @@ def script(text):
     return head + "".join(line + "\n" for line in ["begin", *commands, "end"]).encode()
 
 
-def happened(master, lines):
-    """How many lines tell the event whose lines come first. The master is changed as the event says."""
+def happened(master, lines, places):
+    """How many lines tell the event whose lines come first. The master is changed as the event says. Where places are
+    given, each plan is ahead onto these, else none is."""
     command, *words = lines[0].split(" ")
     words = [word.encode() for word in words]
     if command in ("backup", "reduce"):
         # (as a command it names no attempt)
         wanted, told = master.answer(command, words[1:3], lines), lines[:1]
+    elif (command == "ahead") != (places is not None) and command in ("wave", "ahead"):
+        raise Wrong(f"{lines[0]} is no plan of this run")
     elif command == "wave":
         wanted = master.wave([f"accepted {master.events + 1}", *lines])
         told = lines[: len(wanted) - 1]
     elif command == "ahead":
         # (a history leaves out the places and the whole plan)
         told = [lines[0], *takewhile(lambda it: it.startswith("start "), lines[1:])]
-        starts, spent = master.started(Problem(master.given, master), told[1:])
-        wanted = [*master.accepted(), f"ahead {len(starts)} {spent}", *told[1:]]
+        _, planned, total = master.queued(places)
+        report = [f"accepted {master.events + 1}", lines[0], f"queued {planned} {total}", *told[1:]]
+        wanted = master.ahead(places, report)
+        del wanted[2]
     else:
         # (a sweep tells the dead of a report, which a history leaves out)
         wanted, told = master.answer(command, words, lines)[:1], []
@@ -70,6 +75,8 @@ class Policy:
         self.copies, self.rising = [], []
         # the states since the last event of the calling thread
         self.states = []
+        # the last event's command
+        self.last = ""
         self.keep(False)
 
     def due(self):
@@ -85,6 +92,8 @@ class Policy:
     def before(self, line):
         """An event that comes next."""
         command, *words = line.split(" ")
+        if command == self.last == "ahead":
+            raise Wrong(f"{line} comes right after a plan ahead")
         if command in ("done", "fail"):
             return
         due = self.due()
@@ -115,6 +124,7 @@ class Policy:
     def after(self, line):
         """The event has come."""
         command, *words = line.split(" ")
+        self.last = command
         self.keep(command in ("done", "fail"))
         if command == "add":
             self.copies.pop(0)
@@ -131,8 +141,8 @@ class Policy:
         self.dead.update((worker, (counts[worker], self.held[worker])) for worker in died)
 
 
-def misrecorded(text, written, status):
-    """What is wrong with what `mrjob run --history` answered to a job, or None."""
+def misrecorded(text, written, status, ahead=None):
+    """What is wrong with what `mrjob run --history` answered to a job, or None; with `--ahead` where it is a number."""
     try:
         given = read(text, "run")
     except Fault as fault:
@@ -140,11 +150,12 @@ def misrecorded(text, written, status):
     lines = written.decode().split("\n")[:-1]
     master, at = Master(given), 0
     policy = Policy(master)
+    places = ahead and [min(255, ahead * slots) for slots in given.slots]
     try:
         while at < len(lines) and not lines[at].startswith(("index ", "stuck ")):
             line = lines[at]
             policy.before(line)
-            at += happened(master, lines[at:])
+            at += happened(master, lines[at:], places)
             policy.after(line)
         if policy.due():
             raise Wrong(f"{policy.due()} is left to do")

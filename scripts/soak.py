@@ -8,7 +8,7 @@
 - Jobs of make_texts.py by `mrjob run`: bound to one processor, as 300 of the made jobs are, and at the lowest priority
   beside a spinning process for each processor. Each has its own index, or is stuck with just what nobody holds.
 - The histories of jobs whose workers die, return and are backed up, under made gates: reference_run.py follows each
-  event, and finds the copies, the returns and the backups that the calling thread owes.
+  event, and finds the copies, the returns and the backups that the calling thread owes. Half of them plan ahead.
 - Long jobs, of one split of up to 1,500,000 words, each another one: alone, and bound to one processor beside eight
   spinning processes. No map is given up or made again.
 - A script of 65,536 commands, more than 1,000 waves among them, followed by reference_play.py.
@@ -20,7 +20,8 @@
 
 A failing seed can be run alone: with SEEDS="17 17" in the environment the tests of job_tests run
 made::made_jobs_have_no_other_index on it alone, and `make_texts.py job 17` writes the text of a job. With a text as
-JOB and a number as SEED recorded::a_history_under_a_made_gate writes the history of that job under that gate.
+JOB and a number as SEED recorded::a_history_under_a_made_gate writes the history of that job under that gate, planned
+ahead where a number of waves is given as AHEAD.
 `kept_waves.py 17 17 PROGRAM` plays the cluster of a seed. The last line is 'N passed, M failed'.
 """
 import os
@@ -140,15 +141,16 @@ def memory(_program, sizes, _pool):
 
 def followed(seed):
     """How many events of each kind a made job has under its made gate; none where that ended it."""
-    text = make_texts.scattered_job(random.Random(seed))
-    said, status, _ = ran([TESTS, RECORDED], env={b"JOB": text, b"SEED": str(seed).encode()})
+    text, ahead = make_texts.scattered_job(random.Random(seed)), 1 + seed % 3 if seed % 2 else None
+    waves = {b"AHEAD": str(ahead).encode()} if ahead else {}
+    said, status, _ = ran([TESTS, RECORDED], env={b"JOB": text, b"SEED": str(seed).encode(), **waves})
     lines, _, end = said.partition(b"ended ")
     end = end.split(b"\n")[0]
     if status or end not in (b"Ok(Done)", b"Ok(Stuck)", b"Err(Run(GateLimit))"):
         raise Failure(f"scattered_job {seed}: status {status}: {said.decode()[-2000:]}")
     if end == b"Err(Run(GateLimit))":
         return Counter()
-    wrong = reference_run.misrecorded(text, lines, 0 if end == b"Ok(Done)" else 1)
+    wrong = reference_run.misrecorded(text, lines, 0 if end == b"Ok(Done)" else 1, ahead)
     if wrong:
         raise Failure(f"scattered_job {seed}: {wrong}: {lines.decode()}")
     return Counter(line.split(b" ")[0].decode() for line in lines.split(b"\n"))
@@ -157,8 +159,8 @@ def followed(seed):
 def histories(_program, sizes, pool):
     """That the calling thread does what it owes, event by event."""
     kinds = sum(pool.map(followed, range(1, sizes.histories + 1)), Counter())
-    told = ", ".join(f"{kinds[kind]} {kind}s" for kind in ("wave", "sweep", "add", "join", "backup"))
-    if 0 in (kinds["add"], kinds["join"], kinds["backup"]):
+    told = ", ".join(f"{kinds[kind]} {kind}s" for kind in ("wave", "ahead", "sweep", "add", "join", "backup"))
+    if 0 in (kinds["ahead"], kinds["add"], kinds["join"], kinds["backup"]):
         raise Failure(f"there was nothing to follow: {told}")
     return f"{sizes.histories} histories: {told}"
 

@@ -1,8 +1,9 @@
 -- The commands of mrjob, what clap finds in the words, and when they have a fault.
-use Rattle.std.specs.Prelude.{◌≡◌, ◌⊎◌, ◌↔◌, IsSome, None, Bool, List, [], ◌∷◌, Option, Some, codes, false, true}
-use Rattle.std.specs.Prelude.{⊤, option_and_then, option_map}
+use Rattle.std.specs.Prelude.{ℕ, ◌<◌, ◌≡◌, ◌⊎◌, ◌↔◌, IsSome, None, Bool, List, [], ◌∷◌, Option, Some, codes, false}
+use Rattle.std.specs.Prelude.{true, Ok, ⊤, option_and_then, option_map}
 use Rattle.std.specs.Option.{option_map_or}
 use Rattle.std.specs.Str.{bytes_eq}
+use Rattle.std.specs.Str.Parse.{ParsesUnsigned}
 use Rattle.clap.specs.Simple.{on_top}
 use Rattle.clap.specs.declared.builder.action.ArgAction.TheVariants.{SetTrue}
 use Rattle.clap.specs.Walk.{first_of}
@@ -37,6 +38,10 @@ network = record (new_rule (codes "network")) {
   defaults = word_of Racks ∷ [];
 }
 
+-- the option `--ahead`, which takes a value
+abbrev pub ahead : Rule
+ahead = record (new_rule (codes "ahead")) { long = Some (codes "ahead"); value_names = 1 }
+
 -- a word that may stand after a command, in its place
 abbrev pub word : Text → Rule
 word name = record (new_rule name) { value_names = 1 }
@@ -57,8 +62,9 @@ serve = new_app (codes "serve")
 
 abbrev pub run : App
 run =
-    with_rule (with_rule (with_rule (new_app (codes "run")) (flag (codes "history"))) (flag (codes "quiet")))
-    (flag (codes "explain"))
+    with_rule
+    (with_rule (with_rule (with_rule (new_app (codes "run")) ahead) (flag (codes "history")))
+    (flag (codes "quiet"))) (flag (codes "explain"))
 
 abbrev pub explain : App
 explain = with_rule (with_rule (new_app (codes "explain")) (word (codes "kind"))) (word (codes "name"))
@@ -91,6 +97,21 @@ is_set value = option_map_or (λ text. bytes_eq text (codes "true")) value false
 -- the text names no network
 abbrev pub NamesNoNetwork : Option Text → Type 0
 NamesNoNetwork value = (network : NetworkKind) → value ≡ Some (word_of network) → ⊥
+
+-- the text says this number of waves, from 1 to 255
+abbrev pub SaysWaves : Text → ℕ → Type 0
+SaysWaves text n = ParsesUnsigned {E = Unit {0}} 8 10 text (Ok n) × (0 < n)
+
+-- so many waves are planned ahead as the text says, none where there is no text
+abbrev pub AsksAhead : Option Text → Option ℕ → Type 0
+AsksAhead None waves = waves ≡ None
+AsksAhead (Some text) None = ⊥
+AsksAhead (Some text) (Some n) = SaysWaves text n
+
+-- there is a text, and it says no number of waves
+abbrev pub NamesNoWaves : Option Text → Type 0
+NamesNoWaves None = ⊥
+NamesNoWaves (Some text) = (n : ℕ) → SaysWaves text n → ⊥
 
 -- the kinds of fault that clap finds in the words, a wish for help among them; none where it takes them
 abbrev pub faults_in : List Text → Kinds
@@ -125,7 +146,8 @@ AsksBy text (Plan options) = (options.prices ≡ is_set (text (codes "prices")))
 AsksBy text (Play options) = (options.quiet ≡ is_set (text (codes "quiet")))
     × (options.explain ≡ is_set (text (codes "explain")))
 AsksBy text Serve = ⊤
-AsksBy text (Run options) = (options.history ≡ is_set (text (codes "history")))
+AsksBy text (Run options) = AsksAhead (text (codes "ahead")) options.ahead
+    × (options.history ≡ is_set (text (codes "history")))
     × (options.quiet ≡ is_set (text (codes "quiet"))) × (options.explain ≡ is_set (text (codes "explain")))
 AsksBy text (Explain entry) = AsksRow (text (codes "kind")) (text (codes "name")) entry
 
@@ -138,10 +160,11 @@ NamesNoRow kind name = IsSome kind × (asked_row kind name ≡ None)
 abbrev pub IsRefusedBy : Option Text → (Text → Option Text) → Type 0
 IsRefusedBy command text =
     ((command ≡ Some (codes "plan")) × NamesNoNetwork (text (codes "network")))
+    ⊎ ((command ≡ Some (codes "run")) × NamesNoWaves (text (codes "ahead")))
     ⊎ ((command ≡ Some (codes "explain")) × NamesNoRow (text (codes "kind")) (text (codes "name")))
 
--- the words have a fault of this kind: one that clap finds, or a network that is none, or words that are no
--- row of the table
+-- the words have a fault of this kind: one that clap finds, or a network that is none, or a number of waves
+-- that is none, or words that are no row of the table
 abbrev pub HasFault : List Text → ErrorKind → Type 0
 HasFault words kind = IsAmong kind (faults_in words)
     ⊎ ((kind ≡ InvalidValue) × IsRefusedBy (command_in words) (λ id. value_in id words))

@@ -45,9 +45,11 @@ pub struct PlayOptions {
     pub explain: bool,
 }
 
-/// What is written of a run, and told while it lasts.
+/// How a run is planned, what is written of it, and what is told while it lasts.
 #[derive(Clone, Copy, Debug, PartialEq, Eq)]
 pub struct RunOptions {
+    /// Each wave is a plan ahead, with queues of so many waves' slots.
+    pub ahead: Option<u8>,
     /// Write first all that was done.
     pub history: bool,
     /// A terminal is not told how far it is.

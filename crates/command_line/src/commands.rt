@@ -1,6 +1,7 @@
 ghost use Rattle.std.specs.Prelude.{◌≡◌, IfOk, false, true};
 ghost use Rattle.clap.specs.Words.{App, app_of, new_app, rule_of, with_subcommand};
-ghost use Rattle.command_line.specs.Commands.{check, explain, flag, mrjob, network, plan, play, run, serve, word};
+ghost use Rattle.command_line.specs.Commands.{ahead, check, explain, flag, mrjob, network, plan, play, run};
+ghost use Rattle.command_line.specs.Commands.{serve, word};
 
 use clap::{Arg, ArgAction, Command};
 use std::alloc::{AllocError, Global};
@@ -162,6 +163,9 @@ const RUN_ABOUT: &str =
 
 const HISTORY_HELP: &str = "Writes first all that was done, one event after another";
 
+const AHEAD_HELP: &str =
+    "Plans ahead, with queues of N waves' slots, 1 to 255: splits may wait for holders";
+
 const RUN_TEXTS: &str = "\
 Input:   a job, as text on standard input: a cluster and its documents; at most 32 workers, and in
          version 3 1,024
@@ -244,6 +248,16 @@ fn network_option<'a>(alloc: Global) -> Arg<'a>
         .default_value("racks")
 }
 
+fn ahead_option<'a>(alloc: Global) -> Arg<'a>
+    ensures rule { rule_of result ≡ ahead }
+    ensures local { result.global ≡ false }
+{
+    Arg::new(alloc, "ahead")
+        .long("ahead")
+        .help(AHEAD_HELP)
+        .value_name("N")
+}
+
 fn check_command<'a>(alloc: Global) -> Result<Command<'a>, AllocError>
     ensures { IfOk result (λ command. app_of command ≡ check) }
 {
@@ -268,10 +282,12 @@ fn serve_command<'a>(alloc: Global) -> Result<Command<'a>, AllocError>
     Ok(command_of(alloc, "serve", SERVE_ABOUT, SERVE_TEXTS))
 }
 
-fn run_command<'a>(alloc: Global) -> Result<Command<'a>, AllocError>
+/// The command that runs a job.
+pub(crate) fn run_command<'a>(alloc: Global) -> Result<Command<'a>, AllocError>
     ensures { IfOk result (λ command. app_of command ≡ run) }
 {
     command_of(alloc, "run", RUN_ABOUT, RUN_TEXTS)
+        .arg(ahead_option(alloc))?
         .arg(flag_of(alloc, "history", HISTORY_HELP))?
         .arg(flag_of(alloc, "quiet", QUIET_HELP))?
         .arg(flag_of(alloc, "explain", EXPLAIN_HELP))

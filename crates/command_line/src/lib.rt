@@ -6,21 +6,22 @@
 //! a variant of `Ask` and an arm of `ask_by_name`.
 #![tactic(auto)]
 
-ghost use Rattle.std.specs.Prelude.{◌≡◌, [], Err, IfOk, IsOk, MatchOption, Ok, Some, codes, map};
+ghost use Rattle.std.specs.Prelude.{◌≡◌, [], Err, IfOk, IsOk, MatchOption, MatchResult, Ok, Some, codes, map};
 ghost use Rattle.std.specs.Option.{option_map};
 ghost use Rattle.clap.specs.Walk.{texts};
 ghost use Rattle.clap.specs.Words.{first_value, found_of, kind_of};
 ghost use Rattle.clap.specs.declared.error.kind.ErrorKind.TheVariants.{InvalidValue};
-ghost use Rattle.command_line.specs.Commands.{AsksBy, HasFault, IsOneOf, IsRefusedBy, NamesNoNetwork};
-ghost use Rattle.command_line.specs.Commands.{NamesNoRow, RefusesValue, asked_row, command_in, command_word};
-ghost use Rattle.command_line.specs.Commands.{faults_in, is_set, mrjob, value_in, word_of};
+ghost use Rattle.command_line.specs.Commands.{AsksAhead, AsksBy, HasFault, IsOneOf, IsRefusedBy};
+ghost use Rattle.command_line.specs.Commands.{NamesNoNetwork, NamesNoRow, NamesNoWaves, RefusesValue};
+ghost use Rattle.command_line.specs.Commands.{asked_row, command_in, command_word, faults_in, is_set};
+ghost use Rattle.command_line.specs.Commands.{mrjob, value_in, word_of};
 ghost use Rattle.explanations.specs.Table.{row_of};
 
 pub mod asked;
 mod commands;
 
 use crate::asked::{Ask, AskError, CheckOptions, PlanOptions, PlayOptions, RunOptions};
-use crate::commands::{all_commands, explain_command, plan_command};
+use crate::commands::{all_commands, explain_command, plan_command, run_command};
 use clap::error::ErrorKind;
 use clap::{ArgMatches, Command};
 use explanations::{Entry, entry_named};
@@ -31,8 +32,15 @@ const UNKNOWN_NETWORK: &str = "\
 invalid value for '--network <NETWORK>'
   [possible values: direct, racks]";
 
+const NO_WAVES: &str = "\
+invalid value for '--ahead <N>'
+  [possible values: 1 to 255]";
+
 const UNKNOWN_ROW: &str = "\
 nothing is said of these words; `mrjob explain` alone says all that is said";
+
+// A text says no number that is asked for.
+struct NoNumber;
 
 /// The command that the words ask for with its options, the program's name being the first word.
 pub fn ask<'a>(alloc: Global, words: &'a [&'a str]) -> Result<Ask, AskError>
@@ -78,11 +86,7 @@ fn ask_by_name(alloc: Global, name: &str, options: &ArgMatches) -> Result<Ask, A
             explain: is_given(options, "explain"),
         })),
         "serve" => Ok(Ask::Serve),
-        "run" => Ok(Ask::Run(RunOptions {
-            history: is_given(options, "history"),
-            quiet: is_given(options, "quiet"),
-            explain: is_given(options, "explain"),
-        })),
+        "run" => ask_for_run(alloc, options),
         "explain" => ask_for_rows(alloc, options),
         _ => unreachable!(),
     }
@@ -103,6 +107,38 @@ fn ask_for_plan(alloc: Global, options: &ArgMatches) -> Result<Ask, AskError>
             explain: is_given(options, "explain"),
         })),
         None => Err(no_value(plan_command(alloc), UNKNOWN_NETWORK)),
+    }
+}
+
+// The run that is asked for.
+fn ask_for_run(alloc: Global, options: &ArgMatches) -> Result<Ask, AskError>
+    ensures run { IfOk result (λ ask. command_word ask ≡ codes "run") }
+    ensures options { IfOk result (AsksBy (first_value (found_of options.now))) }
+    ensures fault { (error : _) → result ≡ Err (AskError.Fault error)
+        → (kind_of error ≡ InvalidValue) × NamesNoWaves (first_value (found_of options.now) (codes "ahead")) }
+{
+    match waves_asked(options) {
+        Ok(ahead) => Ok(Ask::Run(RunOptions {
+            ahead,
+            history: is_given(options, "history"),
+            quiet: is_given(options, "quiet"),
+            explain: is_given(options, "explain"),
+        })),
+        Err(NoNumber) => Err(no_value(run_command(alloc), NO_WAVES)),
+    }
+}
+
+// How many waves are to be planned ahead.
+fn waves_asked(options: &ArgMatches) -> Result<Option<u8>, NoNumber>
+    ensures { MatchResult result (AsksAhead (first_value (found_of options.now) (codes "ahead")))
+        (λ _. NamesNoWaves (first_value (found_of options.now) (codes "ahead"))) }
+{
+    let Some(text) = options.get_str("ahead") else {
+        return Ok(None);
+    };
+    match text.parse::<u8>() {
+        Ok(waves) if waves > 0 => Ok(Some(waves)),
+        _ => Err(NoNumber),
     }
 }
 

@@ -1,5 +1,6 @@
 -- What running a job answers to its text.
-use Rattle.std.specs.Prelude.{ℕ, ◌+◌, ◌*◌, max, min, Bool, List, [], ◌++◌, ◌≡◌, Ok, Err, if◌then◌else◌, length}
+use Rattle.std.specs.Prelude.{ℕ, ◌+◌, ◌*◌, max, min, Bool, List, [], ◌++◌, ◌≡◌, Option, Ok, Err}
+use Rattle.std.specs.Prelude.{if◌then◌else◌, length}
 use Rattle.std.specs.declared.result.Result.{Result}
 use Rattle.text_lines.specs.declared.fault.TextFault.{TextFault}
 use Rattle.line_rules.specs.Known.{Known}
@@ -94,9 +95,13 @@ ran_as (Err (error.Tool why)) = Err why
 ran_as (Err (error.Run why)) = Ok (job.Broken why)
 
 -- the job of a head, with the room that a run has
-abbrev pub job_in : Head → ℕ → Job
-job_in head target =
-    record { cluster = cluster_in head; target = target; limits = (setup_on (cluster_in head)).limits }
+abbrev pub job_in : Head → ℕ → Option ℕ → Job
+job_in head target ahead = record {
+  cluster = cluster_in head;
+  target = target;
+  limits = (setup_on (cluster_in head)).limits;
+  ahead = ahead;
+}
 
 -- the split of each text of the master has a name
 abbrev pub HasTextsNamed : Names → Record → Type 0

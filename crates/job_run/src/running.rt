@@ -73,11 +73,12 @@ pub fn run_text<T: Threads + Wait + Clock + Sync, R: Read, W: Write, G: Gate>(
     ensures never_full { result ≢ Err (RunTextError.Tool ToolError.HistoryFull) }
     ensures over { result ≡ Err (RunTextError.Run RunError.GateLimit) → G.may_end ≡ true }
 {
-    run_text_observed(rt, alloc, reader, writer, gate, &Unobserved, false)
+    run_text_observed(rt, alloc, reader, writer, gate, &Unobserved, None, false)
 }
 
-/// The same. While the job runs, the observer is told how far it is; where the history is asked for, the
-/// lines of all that was done are written before those of how the job ended.
+/// The same. While the job runs, the observer is told how far it is. Where a number of waves is given, each
+/// wave is a plan ahead, with queues of so many waves' slots. Where the history is asked for, the lines of
+/// all that was done are written before those of how the job ended.
 pub fn run_text_observed<T: Threads + Wait + Clock + Sync, R: Read, W: Write, G: Gate, O: Observer>(
     rt: &T,
     alloc: Global,
@@ -85,6 +86,7 @@ pub fn run_text_observed<T: Threads + Wait + Clock + Sync, R: Read, W: Write, G:
     writer: &mut W,
     gate: &G,
     observer: &O,
+    ahead: Option<u8>,
     asked: bool,
 ) -> Result<RunEnd, RunTextError>
     ensures ran { HasRun (RunAnswer asked) NoText (R.remaining reader.old) (R.remaining reader.new)
@@ -94,7 +96,7 @@ pub fn run_text_observed<T: Threads + Wait + Clock + Sync, R: Read, W: Write, G:
     ensures never_full { result ≢ Err (RunTextError.Tool ToolError.HistoryFull) }
     ensures over { result ≡ Err (RunTextError.Run RunError.GateLimit) → G.may_end ≡ true }
 {
-    told(run_job(rt, alloc, reader, writer, gate, observer, asked))
+    told(run_job(rt, alloc, reader, writer, gate, observer, ahead, asked))
 }
 
 // How a job's text was answered, as the end of its run.
@@ -117,6 +119,7 @@ fn run_job<T: Threads + Wait + Clock + Sync, R: Read, W: Write, G: Gate, O: Obse
     writer: &mut W,
     gate: &G,
     observer: &O,
+    ahead: Option<u8>,
     asked: bool,
 ) -> Result<JobEnd, ToolError>
     ensures ran { HasRun (RunAnswer asked) NoText (R.remaining reader.old) (R.remaining reader.new)
@@ -126,7 +129,7 @@ fn run_job<T: Threads + Wait + Clock + Sync, R: Read, W: Write, G: Gate, O: Obse
     ensures over { result ≡ Ok (JobEnd.Broken RunError.GateLimit) → G.may_end ≡ true }
 {
     let text = read_text(alloc, reader)?;
-    let (lines, end) = answer_job(rt, alloc, text.as_slice(), gate, observer, asked)?;
+    let (lines, end) = answer_job(rt, alloc, text.as_slice(), gate, observer, ahead, asked)?;
     write_text(writer, lines.as_bytes())?;
     ended(end)
 }
@@ -147,6 +150,7 @@ fn answer_job<T: Threads + Wait + Clock + Sync, G: Gate, O: Observer>(
     text: &[u8],
     gate: &G,
     observer: &O,
+    ahead: Option<u8>,
     asked: bool,
 ) -> Result<(String, Result<JobEnd, TextFault>), AllocError>
     ensures answer { IfOk result (λ given. RunAnswer asked text.now given.1 (string_bytes given.0)) }
@@ -154,7 +158,7 @@ fn answer_job<T: Threads + Wait + Clock + Sync, G: Gate, O: Observer>(
 {
     match read_job(alloc, text) {
         Ok(read) => {
-            let (lines, end) = run_read(rt, alloc, read, gate, observer, asked)?;
+            let (lines, end) = run_read(rt, alloc, read, gate, observer, ahead, asked)?;
             Ok((lines, Ok(end)))
         }
         Err(error) => {
@@ -171,6 +175,7 @@ fn run_read<T: Threads + Wait + Clock + Sync, G: Gate, O: Observer>(
     read: ScriptText<'_>,
     gate: &G,
     observer: &O,
+    ahead: Option<u8>,
     asked: bool,
 ) -> Result<(String, JobEnd), AllocError>
     requires fit { IsFitHead read.head }
@@ -182,16 +187,22 @@ fn run_read<T: Threads + Wait + Clock + Sync, G: Gate, O: Observer>(
     ensures over { IfOk result (λ told. told.1 ≡ JobEnd.Broken RunError.GateLimit → G.may_end ≡ true) }
 {
     let ScriptText { head, script } = read;
-    let job = job_of(alloc, head, &script)?;
+    let job = job_of(alloc, head, &script, ahead)?;
     let ended = run_recorded(rt, alloc, job, gate, observer);
     tell(rt, alloc, &script.names, ended, asked)
 }
 
-// The job of a head, with the target of its text, and room for what a run may need.
-fn job_of(alloc: Global, head: Head, script: &Script<'_>) -> Result<Job, AllocError>
+// The job of a head, with the target of its text, room for what a run may need, and how far it is planned
+// ahead.
+fn job_of(
+    alloc: Global,
+    head: Head,
+    script: &Script<'_>,
+    ahead: Option<u8>,
+) -> Result<Job, AllocError>
     requires fit { IsFitHead head }
     requires target { IsTarget script.now.target }
-    ensures value { IfOk result (λ job. job ≡ job_in head script.now.target) }
+    ensures value { IfOk result (λ job. job ≡ job_in head script.now.target ahead) }
     ensures allowed { IfOk result (λ job. AreAllowed job.limits) }
 {
     let tasks = head.splits.len() + head.parts;
@@ -200,6 +211,7 @@ fn job_of(alloc: Global, head: Head, script: &Script<'_>) -> Result<Job, AllocEr
         cluster,
         target: script.target as u8,
         limits: run_room(tasks),
+        ahead,
     })
 }
 

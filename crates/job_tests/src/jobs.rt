@@ -117,5 +117,6 @@ pub fn job_of(
         cluster,
         target: 3,
         limits,
+        ahead: None,
     })
 }

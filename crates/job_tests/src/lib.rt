@@ -2,6 +2,8 @@
 #![tactic(auto)]
 
 #[cfg(test)]
+mod aheads;
+#[cfg(test)]
 mod asks;
 #[cfg(test)]
 mod deaths;

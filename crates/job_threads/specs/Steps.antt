@@ -1,7 +1,7 @@
 -- What a step of a thread may add to its hand, and to the lanes.
 use Rattle.std.specs.Prelude.{ℕ, ◌+◌, ◌||◌, ◌≡◌, ◌⊎◌, Bool, true, false, List, [], ◌∷◌, ◌++◌}
 use Rattle.std.specs.Prelude.{◌<◌, Option, Some, None, Ok, Err, slice_get, slice_index, slice_index_or}
-use Rattle.std.specs.Prelude.{length, not, ◌==◌, if◌then◌else◌}
+use Rattle.std.specs.Prelude.{length, map, min, not, option_map, ◌*◌, ◌==◌, if◌then◌else◌}
 use Rattle.std.specs.Arc.{arc_value}
 use Rattle.std.specs.declared.alloc.Global.{Global}
 use Rattle.std.specs.declared.sync.Arc.{Arc}
@@ -27,8 +27,10 @@ use Rattle.master_state.specs.States.{Setup}
 use Rattle.block_map.specs.declared.CopyOrder.{CopyOrder}
 use Rattle.shared_master.specs.Held.{AreCopiesOf, IsBackupWorkerOf, IsShownOf}
 use Rattle.shared_master.specs.Steps.{AreDeadOf, IsKeptAs, IsKeptBackup, IsKeptReduce, IsKeptSweep, Replies}
-use Rattle.shared_master.specs.Waves.{IsKeptWave}
+use Rattle.shared_master.specs.Aheads.{IsAheadStepOf}
+use Rattle.shared_master.specs.Waves.{AreKeptAs, IsKeptWave, ahead_event, noted_wave}
 use Rattle.shared_master.specs.declared.waves.SharedWave.{SharedWave}
+use Rattle.shared_master.specs.declared.waves.WaveError.{WaveError}
 use Rattle.job_threads.specs.Chains.{EachBelow, OnlyIf}
 use Rattle.job_threads.specs.Holdings.{AreReturning, all_buried, back_with, changed_at, has_risen}
 use Rattle.job_threads.specs.Holdings.{holding_too}
@@ -212,11 +214,39 @@ abbrev pub IsBackedUpToo : Setup → ℕ → Sent × Bool → Sent × Bool → T
 IsBackedUpToo setup split before after =
     (put : Bool) × IsBackedUp setup split before.0 put after.0 × (after.1 ≡ (before.1 || put))
 
--- a wave was planned, and its starts were sent
-pub record IsWaveStarted (setup : Setup) (before : Sent) (started : Bool) (after : Sent) : Type 0 where
+-- how many places a worker's queue has, by how many waves are planned ahead and its slots
+abbrev pub places : ℕ → ℕ → ℕ
+places waves slots = min (waves * slots) 255
+
+-- the places of all queues, where waves are planned ahead
+abbrev pub queues_of : Setup → Option ℕ → Option (List ℕ)
+queues_of setup ahead = option_map (λ waves. map (places waves) setup.cluster.slots) ahead
+
+-- a wave was planned; or ahead onto these queues, and its heads are the starts
+abbrev pub IsPlanned : Setup → Option (List ℕ) → HandValue → SharedWave → HandValue → Type 0
+IsPlanned setup None hand shared after = IsKeptWave setup hand shared after
+IsPlanned setup (Some asked) hand shared after =
+    AreKeptAs setup hand (ahead_event shared.wave) shared after
+    × IsAheadStepOf setup hand asked (Ok (Some shared)) after
+
+-- nothing is planned ahead, since the last event was a plan ahead
+abbrev pub IsWaiting : Setup → Option (List ℕ) → HandValue → HandValue → Type 0
+IsWaiting setup None hand after = ⊥
+IsWaiting setup (Some asked) hand after = (after ≡ hand) × IsAheadStepOf setup hand asked (Ok None) after
+
+-- what the caller of a plan sees
+abbrev pub PlansAs :
+    Setup → Option (List ℕ) → HandValue → Result (Option SharedWave) WaveError → HandValue → Type 0
+PlansAs setup queues hand (Ok (Some shared)) after = IsPlanned setup queues hand shared after
+PlansAs setup queues hand (Ok None) after = IsWaiting setup queues hand after
+PlansAs setup queues hand (Err e) after = after ≡ noted_wave (length setup.cluster.splits) hand e
+
+-- a wave was planned, by itself or ahead, and its starts were sent
+pub record IsWaveStarted
+    (setup : Setup) (queues : Option (List ℕ)) (before : Sent) (started : Bool) (after : Sent) : Type 0 where
   pub shared : SharedWave
   pub answered : HandValue
-  pub kept : IsKeptWave setup before.hand shared answered
+  pub kept : IsPlanned setup queues before.hand shared answered
   pub starts : AreStartsSent shared setup.cluster.texts (sent before.lanes answered) started after
 
 -- the order of a reply went to its worker, if there is one
@@ -238,16 +268,23 @@ pub record IsReduceStarted (setup : Setup) (before : Sent) (started : Bool) (aft
 abbrev pub IsNothing : Sent → Bool → Sent → Type 0
 IsNothing before started after = (started ≡ false) × (after ≡ before)
 
+-- a wave is started; or nothing is, where a plan ahead waits
+abbrev pub StartsWave : Setup → Option (List ℕ) → Sent → Bool → Sent → Type 0
+StartsWave setup queues before started after =
+    IsWaveStarted setup queues before started after
+    ⊎ (IsWaiting setup queues before.hand after.hand × IsNothing before started after)
+
 -- what starts where a wave may, and where a reduce attempt may
-abbrev pub StartsAs : Setup → Bool → Bool → Sent → Bool → Sent → Type 0
-StartsAs setup true reducible before started after = IsWaveStarted setup before started after
-StartsAs setup false true before started after = IsReduceStarted setup before started after
-StartsAs setup false false before started after = IsNothing before started after
+abbrev pub StartsAs : Setup → Option (List ℕ) → Bool → Bool → Sent → Bool → Sent → Type 0
+StartsAs setup queues true reducible before started after = StartsWave setup queues before started after
+StartsAs setup queues false true before started after = IsReduceStarted setup before started after
+StartsAs setup queues false false before started after = IsNothing before started after
 
 -- what starts in a turn by what was seen; nothing while waves pause
-abbrev pub Starts : Setup → Bool → Glance → Sent → Bool → Sent → Type 0
-Starts setup true seen before started after = IsNothing before started after
-Starts setup false seen before started after = StartsAs setup seen.ready seen.reducible before started after
+abbrev pub Starts : Setup → Option (List ℕ) → Bool → Glance → Sent → Bool → Sent → Type 0
+Starts setup queues true seen before started after = IsNothing before started after
+Starts setup queues false seen before started after =
+    StartsAs setup queues seen.ready seen.reducible before started after
 
 -- The errors of a step of the calling thread. The gate alone ends a run with GateLimit, and the start of the
 -- threads with NoThread.
@@ -271,9 +308,9 @@ AreBackedUp setup before after idle new_idle =
 
 -- What may start by what was seen is started. Where nothing was, the turn is counted as idle; a second
 -- attempt may yet start, and then it was not.
-abbrev pub HasStarted : Setup → Bool → Glance → Sent → ℕ → ℕ → Type 0
-HasStarted setup pauses seen before idle new_idle =
-    (started : Bool) × (after : Sent) × Starts setup pauses seen before started after
+abbrev pub HasStarted : Setup → Option (List ℕ) → Bool → Glance → Sent → ℕ → ℕ → Type 0
+HasStarted setup queues pauses seen before idle new_idle =
+    (started : Bool) × (after : Sent) × Starts setup queues pauses seen before started after
     × ((new_idle ≡ idle_after idle started) ⊎ (new_idle ≡ 0))
 
 -- why the turns ended: the run was seen to be over; or at a glance all parts were done, or nothing ran and

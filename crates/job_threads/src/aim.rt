@@ -1,14 +1,20 @@
-ghost use Rattle.std.specs.Prelude.{◌≡◌, ℕ, Bool, false, List, []};
+ghost use Rattle.std.specs.Prelude.{◌≡◌, ◌≤◌, ℕ, Bool, false, List, [], All, IfOk, MatchOption, None, Option};
+ghost use Rattle.std.specs.Prelude.{Some, map, option_map};
+ghost use Rattle.wave_problem.specs.declared.TheConstants.{MAX_SLOTS};
 ghost use Rattle.beat_board.specs.Values.{BoardValue};
 ghost use Rattle.lane_queue.specs.Lanes.{LaneValue};
+ghost use Rattle.job_threads.specs.Steps.{places, queues_of};
 
 use shared_master::OfJob;
+use std::alloc::{AllocError, Global};
 use std::marker::{Brand, Model, PhantomData};
 
-/// How many replicas each split of a job should have, the board and the workers' lanes of its run, and
-/// whether the gate of the run may end it. Each run picks them.
+/// How many replicas each split of a job should have, how many waves are planned ahead, the board and the
+/// workers' lanes of its run, and whether the gate of the run may end it. Each run picks them.
 pub trait Aim {
     ghost target: { ℕ };
+
+    ghost ahead: { Option ℕ };
 
     ghost board: { BoardValue };
 
@@ -19,6 +25,8 @@ pub trait Aim {
 
 impl Aim for Brand {
     ghost target = { 0 };
+
+    ghost ahead = { None };
 
     ghost board = { record {
       board = record {
@@ -108,4 +116,66 @@ impl<L: OfJob> Silence<L> {
     {
         self.sweeps
     }
+}
+
+// How many places the workers' queues have, where the job is planned ahead.
+#[derive(Drop)]
+pub(crate) struct Queues<L: OfJob + Aim> {
+    places: Option<Vec<u64>>,
+    of: PhantomData<L>,
+}
+
+impl<L: OfJob + Aim> Model for Queues<L> {
+    ghost use Rattle.std.specs.Prelude.{◌≡◌, ℕ, List, Option, option_map};
+    ghost use Rattle.job_threads.specs.Steps.{queues_of};
+
+    ghost Value = { Option (List ℕ) };
+
+    ghost view = { λ q. option_map (λ places. places.items) q.places };
+
+    ghost invariant = { λ q. option_map (λ places. places.items) q.places ≡ queues_of L.setup L.ahead };
+}
+
+impl<L: OfJob + Aim> Queues<L> {
+    // The queues of the job, on workers with these numbers of slots.
+    pub(crate) fn of(
+        alloc: Global,
+        slots: &[u8],
+        ahead: Option<u8>,
+    ) -> Result<Queues<L>, AllocError>
+        requires slots { slots.now ≡ L.setup.cluster.slots }
+        requires ahead { ahead ≡ L.ahead }
+    {
+        let places = match ahead {
+            Some(waves) => Some(places(alloc, slots, waves)?),
+            None => None,
+        };
+        Ok(Queues {
+            places,
+            of: PhantomData,
+        })
+    }
+
+    // The places of each worker's queue.
+    pub(crate) fn places(&self) -> Option<&[u64]>
+        ensures value { MatchOption result (queues_of L.setup L.ahead ≡ None)
+            (λ places. queues_of L.setup L.ahead ≡ Some places.now) }
+        ensures few { MatchOption result (Unit {0}) (λ places. All (λ n. n ≤ MAX_SLOTS) places.now) }
+    {
+        match &self.places {
+            Some(places) => Some(places.as_slice()),
+            None => None,
+        }
+    }
+}
+
+// The slots of so many waves on each worker, and 255 at most.
+fn places(alloc: Global, slots: &[u8], waves: u8) -> Result<Vec<u64>, AllocError>
+    ensures { IfOk result (λ made. made.items ≡ map (places waves) slots.now) }
+{
+    let mut made = Vec::with_capacity(alloc, slots.len())?;
+    for count in slots {
+        made.push((u64::from(waves) * u64::from(*count)).min(255))?;
+    }
+    Ok(made)
 }

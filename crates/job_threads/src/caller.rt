@@ -5,11 +5,11 @@ ghost use Rattle.job_threads.specs.declared.outcome.RunError.{RunError};
 ghost use Rattle.job_threads.specs.Holdings.{changed_at, stopped};
 ghost use Rattle.job_threads.specs.Steps.{AreBackedUp, EndsCalls, HasStarted, IsStepError, IsSwept};
 ghost use Rattle.job_threads.specs.Steps.{MayEndWith};
-ghost use Rattle.job_threads.specs.Steps.{known, progress_of, sent};
+ghost use Rattle.job_threads.specs.Steps.{known, progress_of, queues_of, sent};
 ghost use Rattle.job_threads.specs.Turns.{has_ended, idle_after, is_still, nap_micros, quiet_after};
 ghost use Rattle.job_threads.specs.Turns.{IsPastHelp, none_may_rise, quiet_swept};
 
-use crate::aim::{Aim, Silence, Target};
+use crate::aim::{Aim, Queues, Silence, Target};
 use crate::asking::Asked;
 use crate::beats::Watch;
 use crate::common::{Common, Over};
@@ -41,6 +41,7 @@ pub(crate) struct Caller<'a, L: Ledger + OfJob + Aim> {
     pub(crate) holdings: Holdings,
     pub(crate) target: Target<L>,
     pub(crate) silence: Silence<L>,
+    pub(crate) queues: Queues<L>,
     // the greatest number of an attempt that was sent
     pub(crate) newest: u32,
     // in how many turns, one after the other, nothing started
@@ -123,8 +124,9 @@ impl<'a, L: Ledger + OfJob + Aim> Caller<'a, L> {
         common: &Common<'_, L, G>,
         seen: &SharedGlance<L>,
     ) -> Result<(), RunError>
-        ensures started { OnOk result (HasStarted L.setup (nat_lt 0 self.old.pause) seen.now
-            (sent self.old.lanes.items self.old.hand) self.old.idle self.new.idle) }
+        ensures started { OnOk result (HasStarted L.setup (queues_of L.setup L.ahead)
+            (nat_lt 0 self.old.pause) seen.now (sent self.old.lanes.items self.old.hand)
+            self.old.idle self.new.idle) }
         ensures err { IfErr result (MayEndWith (G.may_end ≡ true)) }
     {
         let started = self.start(rt, alloc, common, seen)?;

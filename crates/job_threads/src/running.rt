@@ -9,7 +9,7 @@ ghost use Rattle.job_threads.specs.Closing.{AreCounted, AreHandedOver, first_pas
 ghost use Rattle.job_threads.specs.Settled.{ConcludesAs, no_hand};
 ghost use Rattle.job_threads.specs.declared.outcome.RunError.{RunError};
 
-use crate::aim::{Aim, Silence, Target};
+use crate::aim::{Aim, Queues, Silence, Target};
 use crate::beats::{Pulse, Watch};
 use crate::caller::Caller;
 use crate::closing::{Closing, close};
@@ -130,6 +130,7 @@ fn run_on<
     requires ledger { (blank.name ≡ L.name) × (blank.parts ≡ L.parts) × (blank.parts ≡ 4096) }
     requires job { setup_of job ≡ L.setup }
     requires target { job.target ≡ L.target }
+    requires ahead { job.ahead ≡ L.ahead }
     requires gate { G.may_end ≡ L.may_end }
     requires paths { (paths.board ≡ L.board) × (paths.ways.items ≡ L.lanes) }
     requires sizes { (paths.board.workers ≡ length job.cluster.slots)
@@ -143,6 +144,7 @@ fn run_on<
         cluster,
         target,
         limits,
+        ahead,
     } = job;
     let Paths {
         board,
@@ -154,7 +156,7 @@ fn run_on<
     let Ok(watch) = Watch::new(alloc, &board, maker, cluster.slots().len()) else {
         return Err(RunError::Memory);
     };
-    let aims = aims_of::<L>(alloc, &cluster, usize::from(target), limits)?;
+    let aims = aims_of::<L>(alloc, &cluster, usize::from(target), limits, ahead)?;
     let Ok(master) = Master::new(alloc, cluster, limits) else {
         return Err(RunError::Memory);
     };
@@ -187,6 +189,7 @@ struct Aims<L: OfJob + Aim> {
     holdings: Holdings,
     target: Target<L>,
     silence: Silence<L>,
+    queues: Queues<L>,
     room: Limits,
     dead: Dead<L>,
 }
@@ -196,9 +199,11 @@ fn aims_of<L: OfJob + Aim>(
     cluster: &Cluster,
     target: usize,
     room: Limits,
+    ahead: Option<u8>,
 ) -> Result<Aims<L>, RunError>
     requires cluster { cluster.now ≡ L.setup.cluster }
     requires target { target ≡ L.target }
+    requires ahead { ahead ≡ L.ahead }
     ensures holdings { IfOk result (λ aims. aims.holdings.workers.items ≡ opened L.setup.cluster) }
     ensures room { IfOk result (λ aims. aims.room ≡ room) }
     ensures err { IfErr result (λ e. e ≡ RunError.Memory) }
@@ -209,6 +214,9 @@ fn aims_of<L: OfJob + Aim>(
     let Ok(holdings) = Holdings::of(alloc, cluster) else {
         return Err(RunError::Memory);
     };
+    let Ok(queues) = Queues::of(alloc, cluster.slots(), ahead) else {
+        return Err(RunError::Memory);
+    };
     let Ok(dead) = Dead::new(alloc, cluster.slots().len()) else {
         return Err(RunError::Memory);
     };
@@ -217,6 +225,7 @@ fn aims_of<L: OfJob + Aim>(
         holdings,
         target: Target::new(target),
         silence: Silence::new(cluster.silence()),
+        queues,
         room,
         dead,
     })
@@ -253,6 +262,7 @@ fn run_shared<
         holdings,
         target,
         silence,
+        queues,
         room,
         dead,
     } = aims;
@@ -271,6 +281,7 @@ fn run_shared<
         holdings,
         target,
         silence,
+        queues,
         newest: 0,
         idle: 0,
         pause: 0,

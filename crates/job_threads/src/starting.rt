@@ -5,11 +5,10 @@ ghost use Rattle.lane_queue.specs.Orders.{attempt_of};
 ghost use Rattle.job_threads.specs.Chains.{EachBelow};
 ghost use Rattle.job_threads.specs.Steps.{AreStartsSent, IsAnswered, IsBackedUp, IsBackedUpToo, IsMapSent};
 ghost use Rattle.job_threads.specs.Steps.{IsMapStartSent, IsReduceStarted, IsSent, IsStepError};
-ghost use Rattle.job_threads.specs.Steps.{IsWaveStarted};
-ghost use Rattle.job_threads.specs.Steps.{Starts, sent};
+ghost use Rattle.job_threads.specs.Steps.{PlansAs, Starts, StartsWave, queues_of, sent};
 ghost use Rattle.shared_master.specs.Waves.{IsMapStart, WavesAs};
 
-use crate::aim::Aim;
+use crate::aim::{Aim, Queues};
 use crate::caller::Caller;
 use crate::common::{Common, judge, judge_why};
 use crate::gate::Gate;
@@ -34,8 +33,8 @@ impl<'a, L: Ledger + OfJob + Aim> Caller<'a, L> {
         common: &Common<'_, L, G>,
         seen: &SharedGlance<L>,
     ) -> Result<bool, RunError>
-        ensures starts { IfOk result (λ started. Starts L.setup (nat_lt 0 self.old.pause) seen.now
-            (sent self.old.lanes.items self.old.hand) started
+        ensures starts { IfOk result (λ started. Starts L.setup (queues_of L.setup L.ahead)
+            (nat_lt 0 self.old.pause) seen.now (sent self.old.lanes.items self.old.hand) started
             (sent self.new.lanes.items self.new.hand)) }
         ensures idle { self.new.idle ≡ self.old.idle }
         ensures err { IfErr result IsStepError }
@@ -54,7 +53,7 @@ impl<'a, L: Ledger + OfJob + Aim> Caller<'a, L> {
         }
     }
 
-    // Plans a wave, and sends its orders.
+    // Plans a wave, and sends its orders; none where a plan ahead waits.
     fn start_wave<G: Gate, R: Wait>(
         &mut self,
         rt: &R,
@@ -63,17 +62,25 @@ impl<'a, L: Ledger + OfJob + Aim> Caller<'a, L> {
         _seen: &SharedGlance<L>,
     ) -> Result<bool, RunError>
         requires { IsTrue _seen.now.ready }
-        ensures starts { IfOk result (λ started. IsWaveStarted L.setup
+        ensures starts { IfOk result (λ started. StartsWave L.setup (queues_of L.setup L.ahead)
             (sent self.old.lanes.items self.old.hand) started
             (sent self.new.lanes.items self.new.hand)) }
         ensures idle { self.new.idle ≡ self.old.idle }
         ensures err { IfErr result IsStepError }
     {
-        match plan(rt, alloc, common, &mut self.hand, self.waves == 0) {
-            Ok(wave) => {
+        match plan(
+            rt,
+            alloc,
+            common,
+            &mut self.hand,
+            &self.queues,
+            self.waves == 0,
+        ) {
+            Ok(Some(wave)) => {
                 self.waves = self.waves.saturating_add(1);
                 self.send_wave(rt, common, &wave)
             }
+            Ok(None) => Ok(false),
             Err(WaveError::Memory) => Err(RunError::Memory),
             Err(WaveError::HistoryFull) => Err(RunError::HistoryFull),
             Err(WaveError::StrangeHand) => Err(RunError::Torn(self.hand.last_place())),
@@ -276,9 +283,26 @@ impl<'a, L: Ledger + OfJob + Aim> Caller<'a, L> {
     }
 }
 
+// Plans a wave, or ahead where the job has queues, and commits it; none where a plan ahead waits.
+fn plan<L: Ledger + OfJob + Aim, G: Gate, R: Wait>(
+    rt: &R,
+    alloc: Global,
+    common: &Common<'_, L, G>,
+    hand: &mut Hand<L>,
+    queues: &Queues<L>,
+    is_first: bool,
+) -> Result<Option<SharedWave>, WaveError>
+    ensures { PlansAs L.setup (queues_of L.setup L.ahead) hand.old result hand.new }
+{
+    match queues.places() {
+        Some(places) => common.shared.start_ahead(rt, alloc, hand, places),
+        None => Ok(Some(plan_wave(rt, alloc, common, hand, is_first)?)),
+    }
+}
+
 // Plans and commits a wave. The first one places all splits, so it is planned while the lock is free. Each
 // later one goes on from the engine that the master keeps, which takes less time than a copy of the problem.
-fn plan<L: Ledger + OfJob + Aim, G: Gate, R: Wait>(
+fn plan_wave<L: Ledger + OfJob + Aim, G: Gate, R: Wait>(
     rt: &R,
     alloc: Global,
     common: &Common<'_, L, G>,

@@ -40,6 +40,8 @@ mod runs;
 #[cfg(test)]
 mod seen;
 #[cfg(test)]
+mod shared_aheads;
+#[cfg(test)]
 mod shared_jobs;
 #[cfg(test)]
 mod shared_masters;

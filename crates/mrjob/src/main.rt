@@ -188,6 +188,7 @@ fn run_job(
         &mut output,
         &PlainGate,
         &told,
+        options.ahead,
         options.history,
     );
     told.clear();
