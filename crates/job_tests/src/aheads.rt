@@ -24,17 +24,17 @@ fn planned<G: Gate, R: Threads + Wait + Clock + Abort + Sync>(
     let ran = run_recorded(rt, alloc, job, gate, &Unobserved).ok();
     let ran = ran.expect(rt, "no record");
     assert!(rt; ran.index.is_some());
-    let (mut waves, mut aheads, mut bytes) = (0, 0, 0);
+    let (mut waves, mut aheads, mut bytes) = (0usize, 0usize, 0u64);
     let history = ran.master.history();
     for index in 0..history.len() {
         match history.at(index) {
             Event::Wave { cost, .. } => {
-                waves += 1;
-                bytes += cost;
+                waves = waves.saturating_add(1);
+                bytes = bytes.saturating_add(cost);
             }
             Event::Ahead { cost, .. } => {
-                aheads += 1;
-                bytes += cost;
+                aheads = aheads.saturating_add(1);
+                bytes = bytes.saturating_add(cost);
             }
             _ => {}
         }
