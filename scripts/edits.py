@@ -61,6 +61,10 @@ ENDS_HEAD = re.compile(r" *(?:\S.*)?[{};]$")
 OPEN_GOAL = re.compile(
     r"note: (?:\./)?(src/\S+?):(\d+):\d+: (?:it is not proved that|`search` found no proof) .*?\(`([^`]+)`\)"
 )
+# The same of a goal for which a search would take too long.
+LONG_GOAL = re.compile(
+    r"note: what antt said of a `search` in the proof that rattle made: (?:\./)?(src/\S+?):(\d+):\d+: error: `([^`]+)`"
+)
 # An answer that proves its goal no longer, by the folder of its function's proof.
 OPEN_ANSWER = re.compile(r"(?:\./)?proofs/(\S+)/Answers\.antt:\d+:\d+: error: `([^`]+)`: (.*)")
 # What antt says where an answer names what is no longer there.
@@ -269,7 +273,8 @@ class Trial:
         shutil.rmtree(copy)
         if status != 1 or not re.search(r"^(logic=not-proved|only=).*\n\Z", said, re.M):
             return Verdict((), said)
-        goals = [((file, int(line)), goal) for file, line, goal in OPEN_GOAL.findall(said)]
+        told = OPEN_GOAL.findall(said) + LONG_GOAL.findall(said)
+        goals = [((file, int(line)), goal) for file, line, goal in told]
         false = [(folder, name) for folder, name, why in OPEN_ANSWER.findall(said) if not NAMES.search(why)]
         for folder, name in false:
             answers = (self.crate.folder / "proofs" / folder / "Answers.antt").read_text(encoding="utf-8")
