@@ -12,9 +12,9 @@ pub enum Fault {
     Misnamed = 2,
     /// A name that is used is not declared, or is of another kind.
     Unknown = 3,
-    /// A name, a setting, a barred pair, a dead worker or a busy split is declared twice.
+    /// A name, a setting, a barred pair, a dead worker, a busy split or a worker's places are declared twice.
     Repeated = 4,
-    /// A number is out of its range.
+    /// A number is out of its range, or prices of places fall.
     OutOfRange = 5,
     /// The line passes a limit on how many there may be.
     PassesLimit = 6,
