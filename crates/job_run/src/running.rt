@@ -77,8 +77,8 @@ pub fn run_text<T: Threads + Wait + Clock + Sync, R: Read, W: Write, G: Gate>(
 }
 
 /// The same. While the job runs, the observer is told how far it is. Where a number of waves is given, each
-/// wave is a plan ahead, with queues of so many waves' slots. Where the history is asked for, the lines of
-/// all that was done are written before those of how the job ended.
+/// wave is a plan ahead, with queues of so many waves' slots. Where the history is asked for, a line for each
+/// event is written before the lines that tell how the job ended.
 pub fn run_text_observed<T: Threads + Wait + Clock + Sync, R: Read, W: Write, G: Gate, O: Observer>(
     rt: &T,
     alloc: Global,

@@ -7,7 +7,7 @@ use Rattle.line_shapes.specs.declared.keyword.Keyword.TheVariants.{Split, Worker
 use Rattle.line_rules.specs.Known.{HasRow, rows_of}
 use Rattle.line_rules.specs.Rows.{name_in}
 
--- among these rows the names are those of the workers of these numbers
+-- these numbers are numbers of workers among the rows, and the workers have these names
 pub record AreNumbersOf (rows : List Statement) (names : List Word) (numbers : List ℕ) : Type 0 where
   pub within : All (λ n. n < length (rows_of Worker rows)) numbers
   pub named : map (name_in Worker rows) numbers ≡ names
@@ -19,7 +19,7 @@ holders_in rows = flat_map tail_words (rows_of Split rows)
 abbrev pub AreHolders : List Statement → List ℕ → Type 0
 AreHolders rows numbers = AreNumbersOf rows (holders_in rows) numbers
 
--- the same of the holders of this line, which has none where it is no split's
+-- these are the numbers of one line's holders; a line that is no split line has no holders
 abbrev pub AreHoldersOf : List Statement → Statement → List ℕ → Type 0
 AreHoldersOf rows s numbers = AreNumbersOf rows (holders_in (s ∷ [])) numbers
 

@@ -6,13 +6,13 @@
 //! (`specs/Entering.antt`). What a line says, a keyword and its words, is a statement
 //! (`KeyedLine`), and a statement that is entered is a row. `Rows` finds a row by its keyword and its number
 //! among the rows of that keyword, and the number by the words by which the row was entered. It keeps a
-//! barred pair by the numbers of its split and its worker, since a text may bar each of their pairs. `KnownLines`
-//! holds the rows and answers the least fault of the next line. It keeps the numbers of the splits' holders
-//! too (`specs/Holders.antt`), which are found as the names are tested. Each fault is one definition over the places
-//! of a line (`specs/Faults.antt`) and one test in the code. `fit_line` reads one line more and enters
-//! nothing. `read_lines` reads and enters all lines of a text, or answers its least fault
-//! (`specs/Texts.antt`), and `fault_answer` makes the line that tells the fault. Above the crate `plan_text`
-//! and `script_text` make values of the rows.
+//! barred pair by the numbers of its split and its worker, since a text may bar each of their pairs.
+//! `KnownLines` holds the rows and answers the least fault of the next line. It keeps the numbers of the
+//! holders of splits too (`specs/Holders.antt`), which are found as the names are tested. Each fault is one
+//! definition over the places of a line (`specs/Faults.antt`) and one test in the code. `fit_line` reads one
+//! line more and enters nothing. `read_lines` reads and enters all lines of a text, or answers its least
+//! fault (`specs/Texts.antt`), and `fault_answer` makes the line that tells the fault. Above the crate
+//! `plan_text` and `script_text` make values of the rows.
 #![tactic(auto)]
 
 pub mod answer;

@@ -69,8 +69,8 @@ pub fn read_lines(
     Ok(known)
 }
 
-// Takes all lines of a text, and what follows the last line feed. `words` holds those of one line at a time,
-// and `holders` the numbers of its holders.
+// Takes all lines of a text, and what follows the last line feed. `words` has room for the words of one line
+// at a time, and `holders` for the numbers of its holders.
 fn take_lines<'t>(
     words: &mut Vec<&'t str>,
     holders: &mut Vec<u32>,

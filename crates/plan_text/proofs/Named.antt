@@ -152,7 +152,7 @@ parts_mapped f (s ∷ ss) =
     map-append f (tail_words s) (flat_map tail_words ss)
     ∙ ap (λ ns. map f (tail_words s) ++ ns) (parts_mapped f ss)
 
--- the numbers that were found as the lines were read are those of the names
+-- the reader found, for each holder's name, the number of the worker of that name
 pub holders_numbered : (rows : List Statement) → AllPairs (λ a b. a ≢ b) (keys_of rows) → (ns : List ℕ)
     → AreHolders rows ns → ns ≡ holders_of (names_of Worker rows) (rows_of Split rows)
 holders_numbered rows differ ns are =

@@ -6,8 +6,8 @@ use price_certificate::{Condition, PlacePrices};
 use std::alloc::{AllocError, Global};
 use text_lines::NameTable;
 
-/// The answer to a plan that is best: how many splits it starts, their byte-distance, and where places have prices,
-/// what those that it takes cost.
+/// The answer to a plan that is best: how many splits it starts, their byte-distance, and where places have
+/// prices, what the places cost that the plan takes.
 pub fn certified(
     alloc: Global,
     places: &PlacePrices,

@@ -116,7 +116,7 @@ places_cost-past places w n past =
     (λ k l. let none : prices_of places w ≡ [] = get_or_past places w [] past in rw none refl)
     ∙ sum_below-zero n
 
--- the places that an assignment takes are among those of all free slots
+-- the places that an assignment takes cost no more than the places of all free slots
 taken-le : (places : List (List ℕ)) (wave : Wave) (pairs : List (ℕ × ℕ)) → IsAssignment wave pairs →
     places_taken places wave pairs ≤ all_places places wave
 taken-le places wave pairs a =

@@ -16,7 +16,7 @@ use wave_problem::{MAX_SLOTS, Problem};
 
 /// What the split that takes a place on a worker is charged beside its byte-distance: of each worker the prices
 /// of its places, rising. A place past the last price costs as much as that. The places of a worker without
-/// prices are free, and so are those of workers past the last list.
+/// prices are free, and so are the places of a worker past the last list.
 #[derive(Drop)]
 pub struct PlacePrices {
     rows: Vec<Vec<u64>>,
