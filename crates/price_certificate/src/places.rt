@@ -1,5 +1,5 @@
-ghost use Rattle.std.specs.Prelude.{◌≡◌, ◌-◌, ◌*◌, ◌<◌, ◌≤◌, ◌↔◌, [], All, IfSome, IsSome, IsTrue, length, map, min};
-ghost use Rattle.std.specs.Prelude.{slice_index_or};
+ghost use Rattle.std.specs.Prelude.{◌≡◌, ◌-◌, ◌*◌, ◌<◌, ◌≤◌, ◌↔◌, [], All, IfOk, IfSome, IsSome, IsTrue};
+ghost use Rattle.std.specs.Prelude.{length, map, min, slice_index_or};
 ghost use Rattle.rack_tree.specs.declared.TheConstants.{MAX_WORKERS};
 ghost use Rattle.wave_problem.specs.declared.TheConstants.{MAX_SLOTS};
 ghost use Rattle.price_certificate.specs.declared.TheConstants.{MAX_PLACE_PRICE};
@@ -10,7 +10,7 @@ ghost use Rattle.wave_problem.specs.Wave.{worker_at};
 use crate::MAX_PLACE_PRICE;
 use node_ids::WorkerNo;
 use rack_tree::MAX_WORKERS;
-use std::alloc::Global;
+use std::alloc::{AllocError, Global};
 use std::marker::Model;
 use wave_problem::{MAX_SLOTS, Problem};
 
@@ -61,6 +61,18 @@ impl PlacePrices {
         } else {
             None
         }
+    }
+
+    /// The same prices once more.
+    pub fn copy(&self, alloc: Global) -> Result<PlacePrices, AllocError>
+        ensures { IfOk result (λ places. places ≡ self.now) }
+    {
+        let mut rows = Vec::with_capacity(alloc, self.rows.len())?;
+        for row in &self.rows {
+            let copy = row.to_vec(alloc)?;
+            rows.push(copy)?;
+        }
+        Ok(PlacePrices { rows })
     }
 
     /// What holds of all prices of places.
