@@ -1,29 +1,29 @@
 -- What is read off a settled state certifies.
-use Rattle.std.proofs.Common.{◌≡◌, ℕ, zero, suc, ◌+◌, ◌<◌, ◌≤◌, true, cond, List, [], ◌∷◌, length}
+use Rattle.std.proofs.Common.{◌≡◌, ℕ, zero, suc, ◌+◌, ◌-◌, ◌<◌, ◌≤◌, true, cond, List, [], ◌∷◌, length}
 use Rattle.std.proofs.Common.{Option, Some, None, refl, sym, ap, ◌∙◌, subst, inl, inr, ◌⊎◌, arith, unwrap_or}
 use Rattle.std.specs.Prelude.{◌==◌, IsSome, slice_index, ◌≢◌}
 use Rattle.std.proofs.lemmas.Bool.{cases_eq, cases_lt}
 use Rattle.std.proofs.lemmas.List.Sums.{sum_by-cons}
 use borrow.Author.Tests.{eqb-true}
 use Rattle.rack_tree.specs.Tree.{Tree, centre_at, IsWithinReach}
-use Rattle.wave_problem.specs.Wave.{Wave, IsAdmissible, IsUsable, split_at, worker_at, live_holders, cost, reward}
+use Rattle.wave_problem.specs.Wave.{Wave, IsAdmissible, IsUsable, split_at, worker_at, live_holders, cost}
 use Rattle.wave_problem.specs.Assignment.{start_of, pairs_from, pairs_of, load}
 use Rattle.wave_problem.proofs.Bound.{live_known}
 use Rattle.price_certificate.specs.PriceList.{PriceList}
 use Rattle.price_certificate.specs.declared.Condition.TheVariants.{Open, Allowed, Room, SplitPrice}
 use Rattle.price_certificate.specs.declared.Condition.TheVariants.{WorkerPrice, Priced, Tight, Unstarted}
 use Rattle.price_certificate.specs.declared.Condition.TheVariants.{Spare}
-use Rattle.price_certificate.specs.Certificate.{claim, Certifies, split_price, worker_price}
+use Rattle.price_certificate.specs.Certificate.{charged_claim, Certifies, split_price, worker_price}
 use Rattle.tree_flow.specs.declared.nodes.TreeNode.{TreeNode}
 use Rattle.tree_flow.specs.declared.nodes.TreeNode.TheVariants.{Worker, Rack, Centre, Cluster}
 use Rattle.tree_flow.specs.declared.nodes.End.{End}
 use Rattle.tree_flow.specs.Nodes.{parent, is_under, node_above, IsEnd, end_cost, IsKnown}
 use Rattle.tree_flow.specs.declared.nodes.Place.TheVariants.{Stands}
-use Rattle.tree_flow.specs.State.{State, place_of, reach_cost, slots_of}
+use Rattle.tree_flow.specs.State.{State, place_of, reach_cost, slots_of, taken}
 use Rattle.tree_flow.specs.State.{standing_under, IsKept}
 use Rattle.tree_flow.specs.Settled.{HasComeDown, IsHandedDown, deepest_above, ArePrices, EngineCertifies}
-use Rattle.tree_flow.specs.Settled.{EngineIsBest}
-use Rattle.price_certificate.proofs.Duality.{certified-best}
+use Rattle.tree_flow.specs.Settled.{AreTermsOf, EngineIsBest}
+use Rattle.price_certificate.proofs.Duality.{certified-best_by_charge}
 use Rattle.tree_flow.proofs.Ends.{own_above, above_above, end_sound, end_complete}
 use Rattle.tree_flow.proofs.Under.{under-le, under_worker, slots-usable, slots_under, counted}
 
@@ -73,8 +73,9 @@ module _ (wave : Wave) (state : State) (kept : IsKept wave state) where
       let each = kept.balanced.each v in
       kept.level.down v (omega arith)
 
-  -- nothing above a worker with a free slot lies deeper than 0
-  free_at : (w : ℕ) → w < length wave.workers → 0 < state.free w → deepest_above wave.tree state w ≡ 0
+  -- nothing above a worker with a free slot lies deeper than its next place costs
+  free_at : (w : ℕ) → w < length wave.workers → 0 < state.free w
+      → deepest_above wave.tree state w ≤ state.terms.price w (taken wave state w)
   free_at w known free =
       let bottom = kept.level.bottom w known free in
       let one = room_free w (at w 0) known (own_above wave.tree 0 w) free in
@@ -181,7 +182,7 @@ module _ (wave : Wave) (state : State) (kept : IsKept wave state) where
     admissible s w e = let from = handed.started s w e in
         (end_sound wave s w from.0 (kept.cheapest.ends s from.0 from.1) (starts_usable s w e) from.2.under).0
 
-    -- a start and its worker's price cost no more than its end, and that no more than the reward
+    -- a start and its worker's price cost no more than its end, and that no more than a start is worth
     worth : (s w : ℕ) → start_of starts s ≡ Some w → (e : End) × (place_of state s ≡ Stands e)
         × (price s w + worker_price prices w ≤ reach_cost wave state s e)
     worth s w e = let from = handed.started s w e in
@@ -191,7 +192,7 @@ module _ (wave : Wave) (state : State) (kept : IsKept wave state) where
         let same = priced.usable w u in
         (from.0, from.1, omega arith)
 
-    fits : (s w : ℕ) → start_of starts s ≡ Some w → price s w + worker_price prices w ≤ reward wave
+    fits : (s w : ℕ) → start_of starts s ≡ Some w → price s w + worker_price prices w ≤ state.terms.worth
     fits s w e = let own = worth s w e in let most = own.2 in
         let less = kept.cheapest.below_waiting s own.0 own.1 in omega arith
 
@@ -207,18 +208,43 @@ module _ (wave : Wave) (state : State) (kept : IsKept wave state) where
           omega arith)
     ]
 
-    spare : (w : ℕ) → load (pairs_of starts) w < (worker_at wave w).free → worker_price prices w ≡ 0
-    spare w l = elim (usable_or_not wave w) [
-      | inr n ↦ priced.unusable w n
+    -- the starts of a usable worker and its free slots are all its slots
+    loaded : (w : ℕ) → IsUsable wave.workers w → load (pairs_of starts) w + state.free w ≡ (worker_at wave w).free
+    loaded w u =
+        let known = live_known wave w u.0 in
+        let loads = handed.loads w in
+        let each = kept.balanced.each (Worker w) in
+        let own = under_worker wave (slots_of wave) w known in
+        let own_free = under_worker wave state.free w known in
+        let slots = slots-usable wave w u in
+        omega arith
+
+    -- so that its starts take the places that are taken
+    taken_is : (w : ℕ) → IsUsable wave.workers w → taken wave state w ≡ load (pairs_of starts) w
+    taken_is w u = (let all = loaded w u in let slots = slots-usable wave w u in omega arith)
+
+    last_taken : (w : ℕ) → 0 < load (pairs_of starts) w
+        → state.terms.price w (load (pairs_of starts) w - 1) ≤ worker_price prices w
+    last_taken w l =
+        let loads = handed.loads w in
+        let each = kept.balanced.each (Worker w) in
+        let u = slots_under wave w (omega arith) in
+        let all = loaded w u in
+        let slots = slots-usable wave w u in
+        let floor = kept.level.floor w (live_known wave w u.0) (omega arith) in
+        let same = ap (λ (k : ℕ). state.terms.price w (k - 1)) (taken_is w u) in
+        let price = priced.usable w u in
+        omega arith
+
+    first_left : (w : ℕ) → load (pairs_of starts) w < (worker_at wave w).free
+        → worker_price prices w ≤ state.terms.price w (load (pairs_of starts) w)
+    first_left w l = elim (usable_or_not wave w) [
+      | inr n ↦ (let none = priced.unusable w n in omega arith)
       | inl u ↦
-          (let known = live_known wave w u.0 in
-          let loads = handed.loads w in
-          let each = kept.balanced.each (Worker w) in
-          let own = under_worker wave (slots_of wave) w known in
-          let own_free = under_worker wave state.free w known in
-          let slots = slots-usable wave w u in
-          let nothing = free_at w known (omega arith) in
-          let same = priced.usable w u in
+          (let all = loaded w u in
+          let low = free_at w (live_known wave w u.0) (omega arith) in
+          let same = ap (λ (k : ℕ). state.terms.price w k) (taken_is w u) in
+          let price = priced.usable w u in
           omega arith)
     ]
 
@@ -227,15 +253,19 @@ module _ (wave : Wave) (state : State) (kept : IsKept wave state) where
     open_at s None e some = cc
     open_at s (Some w) e some = let a = admissible s w e in (a.pending, a.held)
 
-    split_price_at : (s : ℕ) (o : Option ℕ) → start_of starts s ≡ o → split_price prices s ≤ reward wave
+    split_price_at : (s : ℕ) (o : Option ℕ) → start_of starts s ≡ o → split_price prices s ≤ state.terms.worth
     split_price_at s None e = let p = priced.unstarted s e in omega arith
     split_price_at s (Some w) e = let p = priced.started s w e in omega arith
 
-    worker_price_at : (w : ℕ) → worker_price prices w ≤ reward wave
+    worker_price_at : (w : ℕ) → worker_price prices w ≤ state.terms.worth
     worker_price_at w = elim (usable_or_not wave w) [
       | inr n ↦ (let p = priced.unusable w n in omega arith)
       | inl u ↦ elim (cases_lt (load (pairs_of starts) w) (worker_at wave w).free) [
-        | inl l ↦ (let p = spare w l in omega arith)
+        | inl l ↦
+            (let low = first_left w l in
+            let slots = slots-usable wave w u in
+            let most = kept.fair.capped w (load (pairs_of starts) w) (omega arith) in
+            omega arith)
         | inr f ↦
             (let some = u.1 in
             let found = some_start 0 w starts (omega arith) in
@@ -244,7 +274,7 @@ module _ (wave : Wave) (state : State) (kept : IsKept wave state) where
     ]
 
     priced_at_all : (s w : ℕ) (o : Option ℕ) → start_of starts s ≡ o → IsAdmissible wave s w →
-        reward wave ≤ split_price prices s + worker_price prices w + price s w
+        state.terms.worth ≤ split_price prices s + worker_price prices w + price s w
     priced_at_all s w o e a =
         let offer = end_complete wave s w near known a in
         let cheap = offer.3 in
@@ -255,7 +285,7 @@ module _ (wave : Wave) (state : State) (kept : IsKept wave state) where
         go : (o : Option ℕ) → start_of starts s ≡ o → (x : End) → IsEnd wave s x
             → end_cost wave s x ≤ price s w → state.depth x.node ≤ deepest_above wave.tree state w
             → worker_price prices w ≡ deepest_above wave.tree state w
-            → reward wave ≤ split_price prices s + worker_price prices w + price s w
+            → state.terms.worth ≤ split_price prices s + worker_price prices w + price s w
         go None e x is cheap low same =
             let waits = kept.cheapest.waiting s x (handed.waiting s e) is in omega arith
         go (Some v) e x is cheap low same =
@@ -266,24 +296,29 @@ module _ (wave : Wave) (state : State) (kept : IsKept wave state) where
             omega arith
 
     tight : (s w : ℕ) → start_of starts s ≡ Some w → split_price prices s + worker_price prices w + price s w
-        ≡ reward wave
+        ≡ state.terms.worth
     tight s w e = let p = priced.started s w e in let f = fits s w e in omega arith
 
-    certifies : Certifies (claim wave starts prices)
-    certifies (Open s) = open_at s (start_of starts s) refl
-    certifies (Allowed s w) = λ e. (let a = admissible s w e in (a.live, a.not_barred))
-    certifies (Room w) = room w
-    certifies (SplitPrice s) = omega (arith, split_price_at s (start_of starts s) refl)
-    certifies (WorkerPrice w) = omega (arith, worker_price_at w)
-    certifies (Priced s w) = λ a. omega (arith, priced_at_all s w (start_of starts s) refl a)
-    certifies (Tight s w) = λ e. omega (arith, tight s w e)
-    certifies (Unstarted s) = priced.unstarted s
-    certifies (Spare w) = record { taken = λ _. omega arith; left = λ l. omega (arith, spare w l) }
+    certifies : (places : List (List ℕ)) → AreTermsOf wave places state.terms
+        → Certifies (charged_claim wave places starts prices)
+    certifies places are (Open s) = open_at s (start_of starts s) refl
+    certifies places are (Allowed s w) = λ e. (let a = admissible s w e in (a.live, a.not_barred))
+    certifies places are (Room w) = room w
+    certifies places are (SplitPrice s) = omega (arith, are.worth, split_price_at s (start_of starts s) refl)
+    certifies places are (WorkerPrice w) = omega (arith, are.worth, worker_price_at w)
+    certifies places are (Priced s w) = λ a. omega (arith, are.worth, priced_at_all s w (start_of starts s) refl a)
+    certifies places are (Tight s w) = λ e. omega (arith, are.worth, tight s w e)
+    certifies places are (Unstarted s) = priced.unstarted s
+    certifies places are (Spare w) = record {
+      taken = λ l. omega (arith, last_taken w l, are.price w (load (pairs_of starts) w - 1));
+      left = λ l. omega (arith, first_left w l, are.price w (load (pairs_of starts) w));
+    }
 
 pub engine_certifies : EngineCertifies
-engine_certifies wave state starts prices near known kept handed priced =
-    certifies wave state kept starts prices near known handed priced
+engine_certifies wave places state starts prices are near known kept handed priced =
+    certifies wave state kept starts prices near known handed priced places are
 
 pub engine_is_best : EngineIsBest
-engine_is_best wave state starts near known kept handed prices priced =
-    certified-best (claim wave starts prices) near (engine_certifies wave state starts prices near known kept handed priced)
+engine_is_best wave places state starts prices fit are near known kept handed priced =
+    certified-best_by_charge (charged_claim wave places starts prices) near fit
+    (engine_certifies wave places state starts prices are near known kept handed priced)

@@ -1,5 +1,5 @@
 -- Slots that come back keep the state.
-use Rattle.std.proofs.Common.{◌≡◌, ℕ, ◌+◌, ◌<◌, ◌≤◌, Bool, true, false, cond, Option, Some, None, refl}
+use Rattle.std.proofs.Common.{◌≡◌, ℕ, ◌+◌, ◌-◌, ◌<◌, ◌≤◌, Bool, true, false, cond, Option, Some, None, refl}
 use Rattle.std.proofs.Common.{sym, ap, ◌∙◌, subst, inl, inr, arith, List, [], ◌∷◌, length, count_by, All}
 use Rattle.std.specs.Prelude.{◌≢◌}
 use Rattle.std.proofs.lemmas.Bool.{cases_Bool, cases_eq, eq-eqb, false≢true}
@@ -9,15 +9,16 @@ use Rattle.rack_tree.specs.Tree.{Tree}
 use Rattle.wave_problem.proofs.Grouping.{sum_below-le, sum_below-same}
 use Rattle.wave_problem.specs.declared.lines.WorkerLine.{WorkerLine}
 use Rattle.wave_problem.specs.Sums.{sum_below}
-use Rattle.wave_problem.specs.Wave.{Wave, reward}
+use Rattle.wave_problem.specs.Wave.{Wave}
 use Rattle.tree_flow.specs.declared.nodes.TreeNode.{TreeNode}
 use Rattle.tree_flow.specs.declared.nodes.TreeNode.TheVariants.{Worker, Rack, Centre, Cluster}
 use Rattle.tree_flow.specs.declared.nodes.End.{End}
 use Rattle.tree_flow.specs.Nodes.{parent, is_under, IsEnd}
 use Rattle.tree_flow.specs.declared.nodes.Place.{Place}
 use Rattle.tree_flow.specs.declared.nodes.Place.TheVariants.{Stands, Waits, Unshipped}
-use Rattle.tree_flow.specs.State.{State, place_of, reach_cost, sum_under, slots_of}
-use Rattle.tree_flow.specs.State.{stands_under, standing_under, one_under, AreCheapest, AreLevel, IsKeptBut}
+use Rattle.tree_flow.specs.State.{State, Terms, place_of, reach_cost, sum_under, slots_of, taken}
+use Rattle.tree_flow.specs.State.{stands_under, standing_under, one_under, AreCheapest, AreFair, AreLevel}
+use Rattle.tree_flow.specs.State.{IsFree, IsKeptBut}
 use Rattle.tree_flow.specs.Slots.{GivesSlot, Joins, IsDeepened, Deepens, HasSlotMore}
 use Rattle.tree_flow.specs.Slots.{AddsSlot, with_workers, TakesOff, RemovesSlot, Changes}
 use Rattle.tree_flow.specs.Slots.{Begins}
@@ -29,18 +30,20 @@ use Rattle.tree_flow.proofs.Moved.{placed_balance}
 use Rattle.tree_flow.proofs.Raised.{same_balance}
 
 -- where only slots differ, no end is cheaper than it was
-still_cheapest : (wave : Wave) (old new : State) → new.places ≡ old.places → new.depth ≡ old.depth
-    → AreCheapest wave old → AreCheapest wave new
-still_cheapest wave old new places depth a = record {
+still_cheapest : (wave : Wave) (old new : State) → new.terms ≡ old.terms → new.places ≡ old.places
+    → new.depth ≡ old.depth → AreCheapest wave old → AreCheapest wave new
+still_cheapest wave old new terms places depth a = record {
   ends = λ s e stands. a.ends s e (sym (same s) ∙ stands);
   least = λ s e x stands is.
       (let least = a.least s e x (sym (same s) ∙ stands) is in
       let one = reach s e in let two = reach s x in omega arith);
   below_waiting = λ s e stands.
       (let below = a.below_waiting s e (sym (same s) ∙ stands) in
+      let worth = ap (λ (t : Terms). t.worth) terms in
       let one = reach s e in omega arith);
   waiting = λ s x waits is.
       (let least = a.waiting s x (sym (same s) ∙ waits) is in
+      let worth = ap (λ (t : Terms). t.worth) terms in
       let one = reach s x in omega arith);
 }
   where
@@ -51,14 +54,26 @@ still_cheapest wave old new places depth a = record {
     reach s e = ap (λ depth. reach_cost wave (record old { depth = depth }) s e) depth
 
 pub gives_slot : GivesSlot
-gives_slot wave old new w kept bottom to = record {
-  cheapest = still_cheapest wave old new (sym to.places) (sym to.depth) kept.cheapest;
+gives_slot wave old new w kept low to = record {
+  cheapest = still_cheapest wave old new (sym to.terms) (sym to.places) (sym to.depth) kept.cheapest;
   level = record {
     down = λ v room. rw (← to.depth) (kept.level.down v (rw (← to.flow) at room));
     up = λ v some. rw (← to.depth) (kept.level.up v (rw (← to.flow) at some));
-    bottom = λ x known some. rw (← to.depth) (elim (cases_eq x w) [
-      | inl e ↦ ap (λ (x : ℕ). old.depth (Worker x)) e ∙ bottom
-      | inr n ↦ kept.level.bottom x known (let is = to.others x n in omega arith)
+    bottom = λ x known some. rw (← to.terms, ← to.depth) (elim (cases_eq x w) [
+      | inl e ↦
+          (let here = subst (λ (z : ℕ). old.free z + 1 ≡ new.free z) (sym e) to.here in
+          let own = subst (λ (z : ℕ). old.depth (Worker z) ≤ old.terms.price z (taken wave old z - 1)) (sym e) low in
+          let same : taken wave new x ≡ taken wave old x - 1 = omega arith in
+          rw same own)
+      | inr n ↦ (let is = to.others x n in rw (← is) (kept.level.bottom x known (omega arith)))
+    ]);
+    floor = λ x known some. rw (← to.terms, ← to.depth) (elim (cases_eq x w) [
+      | inl e ↦
+          (let here = subst (λ (z : ℕ). old.free z + 1 ≡ new.free z) (sym e) to.here in
+          let before = kept.level.floor x known (omega arith) in
+          let less = kept.fair.rising x (taken wave new x - 1) (taken wave old x - 1) (omega arith) in
+          omega arith)
+      | inr n ↦ (let is = to.others x n in rw (← is) (kept.level.floor x known (omega arith)))
     ]);
   };
   balanced = record {
@@ -70,6 +85,7 @@ gives_slot wave old new w kept bottom to = record {
         to.here to.others in
         omega arith);
   };
+  fair = rw (← to.terms) kept.fair;
 }
 
 pub joins : Joins
@@ -78,7 +94,7 @@ joins wave old new s x kept waits is tight to = record {
     own_end = λ y same.
         (let eq : x ≡ y = grind arith in
         subst (λ y. IsEnd wave s y × ((z : End) → IsEnd wave s z → reach_cost wave old s y ≤ reach_cost wave old s z)
-        × (reach_cost wave old s y ≤ reward wave)) eq (
+        × (reach_cost wave old s y ≤ old.terms.worth)) eq (
           is,
           λ z end. (let least = kept.cheapest.waiting s z waits end in omega arith),
           omega arith,
@@ -88,6 +104,7 @@ joins wave old new s x kept waits is tight to = record {
   level = placed_level wave old new s (Stands x) to kept.level;
   balanced = placed_balance wave old new s (Stands x) to (Some x.node) None kept.balanced
       (λ v. (let was = ap (λ p. one (stands_under wave.tree v p)) waits in omega arith));
+  fair = rw to.terms kept.fair;
 }
 
 -- what is under a node is under its parent
@@ -181,9 +198,11 @@ module _ (wave : Wave) (old new : State) (u : TreeNode) (hole : Option TreeNode)
         let one = stays s e stands in let two = rises x.node in omega arith);
     below_waiting = λ s e stands.
         (let below = kept.cheapest.below_waiting s e (sym (same s) ∙ stands) in
+        let worth = ap (λ (t : Terms). t.worth) to.terms in
         let one = stays s e stands in omega arith);
     waiting = λ s x waits is.
         (let least = kept.cheapest.waiting s x (sym (same s) ∙ waits) is in
+        let worth = ap (λ (t : Terms). t.worth) to.terms in
         let one = rises x.node in omega arith);
   }
 
@@ -206,7 +225,7 @@ module _ (wave : Wave) (old new : State) (u : TreeNode) (hole : Option TreeNode)
               omega arith)
           | inr n ↦ (let one = to.others v n in omega arith)
         ]);
-    bottom = λ w known some. (let r = rw to.free at some in
+    bottom = λ w known some. rw (to.terms, to.free) (let r = rw to.free at some in
         let before = kept.level.bottom w known r in
         let other : Worker w ≢ u = λ is.
         (let under = subst (λ v. is_under wave.tree (Worker w) v ≡ true) is (under_own wave.tree (Worker w)) in
@@ -214,7 +233,11 @@ module _ (wave : Wave) (old new : State) (u : TreeNode) (hole : Option TreeNode)
         let each = kept.balanced.each u in
         let full = to.full in
         omega arith) in
-        to.others (Worker w) other ∙ before);
+        let own = to.others (Worker w) other in
+        omega arith);
+    floor = λ w known some. rw (to.terms, to.free) (let before = kept.level.floor w known (rw to.free at some) in
+        let one = rises (Worker w) in
+        omega arith);
   }
 
 pub deepens : Deepens
@@ -222,6 +245,21 @@ deepens wave old new u hole kept to = record {
   cheapest = deepened_cheapest wave old new u hole kept to;
   level = deepened_level wave old new u hole kept to;
   balanced = same_balance wave old new hole to.places to.flow to.free kept.balanced;
+  fair = rw to.terms kept.fair;
+}
+
+-- where all places are free, only depths of 0 are asked of workers with free slots
+free_bottom : (state : State) (w j k : ℕ) → IsFree state.terms → state.depth (Worker w) ≤ state.terms.price w j
+    → state.depth (Worker w) ≤ state.terms.price w k
+free_bottom state w j k free low = (let one = free w j in let two = free w k in omega arith)
+
+free_floor : (state : State) (w k : ℕ) → IsFree state.terms → state.terms.price w k ≤ state.depth (Worker w)
+free_floor state w k free = (let none = free w k in omega arith)
+
+pub free_fair : (wave : Wave) (terms : Terms) → IsFree terms → AreFair wave terms
+free_fair wave terms free = record {
+  rising = λ w j k l. (let one = free w j in let two = free w k in omega arith);
+  capped = λ w k l. (let one = free w k in omega arith);
 }
 
 more_slots : (wave : Wave) (workers : List WorkerLine) (w : ℕ) → HasSlotMore wave workers w → (v : TreeNode)
@@ -233,7 +271,7 @@ more_slots wave workers w more v = sum_less (length wave.workers) w (λ x. is_un
     (slots_of (with_workers wave workers) x) 0)) (sym more.size)
 
 pub adds_slot : AddsSlot
-adds_slot wave workers state w kept more above = record {
+adds_slot wave workers state w free kept more above = record {
   cheapest = record {
     ends = λ s e stands. (more.ends s e).1 (kept.cheapest.ends s e stands);
     least = λ s e x stands is. kept.cheapest.least s e x stands ((more.ends s x).0 is);
@@ -247,7 +285,10 @@ adds_slot wave workers state w kept more above = record {
           | inr off ↦ kept.level.down v (let none = ap one off in omega arith)
         ]);
     up = λ v some. kept.level.up v some;
-    bottom = λ x known some. kept.level.bottom x (let size = more.size in omega arith) some;
+    bottom = λ x known some.
+        free_bottom state x (taken wave state x) (taken (with_workers wave workers) state x) free
+        (kept.level.bottom x (let size = more.size in omega arith) some);
+    floor = λ x known some. free_floor state x (taken (with_workers wave workers) state x - 1) free;
   };
   balanced = record {
     size = kept.balanced.size;
@@ -255,9 +296,10 @@ adds_slot wave workers state w kept more above = record {
     each = λ v.
         (let each = kept.balanced.each v in
         let slots = more_slots wave workers w more v in
-        let free = ap (λ n. sum_below n (λ x. cond (is_under wave.tree (Worker x) v) (state.free x) 0)) more.size in
+        let slack = ap (λ n. sum_below n (λ x. cond (is_under wave.tree (Worker x) v) (state.free x) 0)) more.size in
         omega arith);
   };
+  fair = free_fair (with_workers wave workers) state.terms free;
 }
 
 pub takes_off : TakesOff
@@ -269,10 +311,11 @@ takes_off wave old new s e kept stands to = record {
   level = placed_level wave old new s Unshipped to kept.level;
   balanced = placed_balance wave old new s Unshipped to None (Some e.node) kept.balanced
       (λ v. (let was = ap (λ p. one (stands_under wave.tree v p)) stands in omega arith));
+  fair = rw to.terms kept.fair;
 }
 
 pub removes_slot : RemovesSlot
-removes_slot wave workers state w kept more = record {
+removes_slot wave workers state w free kept more = record {
   cheapest = record {
     ends = λ s e stands. (more.ends s e).0 (kept.cheapest.ends s e stands);
     least = λ s e x stands is. kept.cheapest.least s e x stands ((more.ends s x).1 is);
@@ -282,7 +325,10 @@ removes_slot wave workers state w kept more = record {
   level = record {
     down = λ v room. (let slots = more_slots wave workers w more v in kept.level.down v (omega arith));
     up = λ v some. kept.level.up v some;
-    bottom = λ x known some. kept.level.bottom x (let size = more.size in omega arith) some;
+    bottom = λ x known some.
+        free_bottom state x (taken (with_workers wave workers) state x) (taken wave state x) free
+        (kept.level.bottom x (let size = more.size in omega arith) some);
+    floor = λ x known some. free_floor state x (taken wave state x - 1) free;
   };
   balanced = record {
     size = kept.balanced.size;
@@ -290,9 +336,10 @@ removes_slot wave workers state w kept more = record {
     each = λ v.
         (let each = kept.balanced.each v in
         let slots = more_slots wave workers w more v in
-        let free = ap (λ n. sum_below n (λ x. cond (is_under wave.tree (Worker x) v) (state.free x) 0)) more.size in
+        let slack = ap (λ n. sum_below n (λ x. cond (is_under wave.tree (Worker x) v) (state.free x) 0)) more.size in
         omega arith);
   };
+  fair = free_fair wave state.terms free;
 }
 
 pub changes : Changes
@@ -309,13 +356,11 @@ changes wave other state kept to = record {
         (let same = to.others s (stands_there s e stands) in
         let below = kept.cheapest.below_waiting s e stands in
         let one = same.0 e in
-        let k = to.same_reward in
         omega arith);
     waiting = λ s x waits is.
         (let same = to.others s (λ e. cc) in
         let least = kept.cheapest.waiting s x waits ((same.1 x).0 is) in
         let two = same.0 x in
-        let k = to.same_reward in
         omega arith);
   };
   level = record {
@@ -326,7 +371,11 @@ changes wave other state kept to = record {
     up = λ v some. (let p = ap (λ t. state.depth (parent t v)) to.tree in
         let up = kept.level.up v some in
         omega arith);
-    bottom = λ w known some. kept.level.bottom w (let size = to.workers in omega arith) some;
+    bottom = λ w known some.
+        rw (to.slots w) (kept.level.bottom w (let size = to.workers in omega arith) some);
+    floor = λ w known some.
+        rw (to.slots w)
+        (kept.level.floor w (let size = to.workers in omega arith) (let slots = to.slots w in omega arith));
   };
   balanced = record {
     size = kept.balanced.size ∙ sym to.size;
@@ -337,6 +386,10 @@ changes wave other state kept to = record {
         let free = same_sum v state.free in
         let standing = ap (λ t. count_by (λ p. stands_under t v p) state.places) to.tree in
         omega arith);
+  };
+  fair = record {
+    rising = kept.fair.rising;
+    capped = λ w k l. kept.fair.capped w k (let slots = to.slots w in omega arith);
   };
 }
   where
@@ -380,7 +433,8 @@ begins wave state fresh = record {
   level = record {
     down = λ v room. (let a = fresh.depth v in let b = fresh.depth (parent wave.tree v) in omega arith);
     up = λ v some. (let none = fresh.flow v in omega arith);
-    bottom = λ w known some. fresh.depth (Worker w);
+    bottom = λ w known some. (let low = fresh.depth (Worker w) in omega arith);
+    floor = λ w known some. absurd (let all = fresh.free w in omega arith);
   };
   balanced = record {
     size = fresh.size;
@@ -394,6 +448,7 @@ begins wave state fresh = record {
         (λ w l. ap (λ z. cond (is_under wave.tree (Worker w) v) z 0) (fresh.free w)) in
         omega arith);
   };
+  fair = fresh.fair;
 }
   where
     known : (s : ℕ) (e : End) → place_of state s ≡ Stands e → s < length state.places

@@ -3,6 +3,8 @@ pub mod Costs
 pub mod Ends
 pub mod Filled
 pub mod Under
+-- the terms of a wave with prices of places
+pub mod Fair
 -- what is read off a state certifies
 pub mod Certified
 -- steps keep it

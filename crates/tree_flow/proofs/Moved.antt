@@ -8,7 +8,7 @@ use Rattle.std.proofs.lemmas.List.{length-set}
 use Rattle.std.proofs.lemmas.List.Sums.{sum_by-set}
 use Rattle.rack_tree.specs.Tree.{Tree}
 use Rattle.wave_problem.specs.Sums.{sum_below}
-use Rattle.wave_problem.specs.Wave.{Wave, reward}
+use Rattle.wave_problem.specs.Wave.{Wave}
 use Rattle.wave_problem.proofs.Grouping.{sum_below-same}
 use Rattle.tree_flow.specs.declared.nodes.TreeNode.{TreeNode}
 use Rattle.tree_flow.specs.declared.nodes.TreeNode.TheVariants.{Worker, Rack, Centre, Cluster}
@@ -16,7 +16,7 @@ use Rattle.tree_flow.specs.declared.nodes.End.{End}
 use Rattle.tree_flow.specs.Nodes.{parent, is_under, IsEnd}
 use Rattle.tree_flow.specs.declared.nodes.Place.{Place}
 use Rattle.tree_flow.specs.declared.nodes.Place.TheVariants.{Stands, Waits}
-use Rattle.tree_flow.specs.State.{State, place_of, reach_cost}
+use Rattle.tree_flow.specs.State.{State, Terms, place_of, reach_cost, taken}
 use Rattle.tree_flow.specs.State.{stands_under, standing_under, one_under, AreCheapest, AreLevel}
 use Rattle.tree_flow.specs.State.{IsBalancedBut}
 use Rattle.tree_flow.specs.Moves.{IsFlowSet, IsPlaced, PushesDown, PushesUp, HandsOver, SendsOff}
@@ -66,10 +66,12 @@ module _ (wave : Wave) (old new : State) (c : TreeNode) (units : ℕ) (to : IsFl
     below_waiting = λ s e stands.
         (let below = a.below_waiting s e (sym (as_before s) ∙ stands) in
         let one = same_reach s e in
+        let worth = ap (λ (t : Terms). t.worth) to.terms in
         omega arith);
     waiting = λ s x waits is.
         (let least = a.waiting s x (sym (as_before s) ∙ waits) is in
         let one = same_reach s x in
+        let worth = ap (λ (t : Terms). t.worth) to.terms in
         omega arith);
   }
 
@@ -83,7 +85,8 @@ module _ (wave : Wave) (old new : State) (c : TreeNode) (units : ℕ) (to : IsFl
       | inl e ↦ (let d = ap old.depth e in let p = ap (λ v. old.depth (parent wave.tree v)) e in omega arith)
       | inr n ↦ (let same = to.others v n in a.up v (omega arith))
     ]);
-    bottom = λ w known some. rw to.depth (a.bottom w known (rw to.free at some));
+    bottom = λ w known some. rw (to.terms, to.depth, to.free) (a.bottom w known (rw to.free at some));
+    floor = λ w known some. rw (to.terms, to.depth, to.free) (a.floor w known (rw to.free at some));
   }
 
   balance : (hole hole' : Option TreeNode) → IsBalancedBut wave old hole → c ≢ Cluster
@@ -121,6 +124,7 @@ pushes_down wave old new c kept off tight to =
       balanced = balance wave old new c (old.flow c + 1) to (Some c) (Some (parent wave.tree c)) kept.balanced off
           (omega arith)
           (λ u n. ap (λ b. cond {A = ℕ} b 1 0) (parent_under wave.tree c u n));
+      fair = rw to.terms kept.fair;
     }
 
 pub pushes_up : PushesUp
@@ -134,6 +138,7 @@ pushes_up wave old new c kept off tight some to =
       balanced = balance wave old new c (old.flow c - 1) to (Some (parent wave.tree c)) (Some c) kept.balanced off
           (omega arith)
           (λ u n. sym (ap (λ b. cond {A = ℕ} b 1 0) (parent_under wave.tree c u n)));
+      fair = rw to.terms kept.fair;
     }
 
 module _ (wave : Wave) (old new : State) (s : ℕ) (place : Place) (to : IsPlaced old new s place) where
@@ -152,28 +157,29 @@ module _ (wave : Wave) (old new : State) (s : ℕ) (place : Place) (to : IsPlace
   placed_level a = record {
     down = λ v room. rw to.depth (a.down v (rw to.flow at room));
     up = λ v some. rw to.depth (a.up v (rw to.flow at some));
-    bottom = λ w known some. rw to.depth (a.bottom w known (rw to.free at some));
+    bottom = λ w known some. rw (to.terms, to.depth, to.free) (a.bottom w known (rw to.free at some));
+    floor = λ w known some. rw (to.terms, to.depth, to.free) (a.floor w known (rw to.free at some));
   }
 
   -- what is to be shown of the split itself
   pub record OwnCheapest : Type 0 where
     pub own_end : (e : End) → place ≡ Stands e → IsEnd wave s e
         × ((x : End) → IsEnd wave s x → reach_cost wave old s e ≤ reach_cost wave old s x)
-        × (reach_cost wave old s e ≤ reward wave)
-    pub own_wait : place ≡ Waits → (x : End) → IsEnd wave s x → reward wave ≤ reach_cost wave old s x
+        × (reach_cost wave old s e ≤ old.terms.worth)
+    pub own_wait : place ≡ Waits → (x : End) → IsEnd wave s x → old.terms.worth ≤ reach_cost wave old s x
 
   own_cheapest : OwnCheapest → (t : ℕ) → t ≡ s → (e : End) → place_of new t ≡ Stands e → IsEnd wave t e
       × ((x : End) → IsEnd wave t x → reach_cost wave old t e ≤ reach_cost wave old t x)
-      × (reach_cost wave old t e ≤ reward wave)
+      × (reach_cost wave old t e ≤ old.terms.worth)
   own_cheapest own t is e stands =
       subst (λ t. IsEnd wave t e × ((x : End) → IsEnd wave t x → reach_cost wave old t e ≤ reach_cost wave old t x)
-      × (reach_cost wave old t e ≤ reward wave)) (sym is)
+      × (reach_cost wave old t e ≤ old.terms.worth)) (sym is)
       (own.own_end e (sym here_now ∙ ap (λ t. place_of new t) (sym is) ∙ stands))
 
   own_waiting : OwnCheapest → (t : ℕ) → t ≡ s → place_of new t ≡ Waits → (x : End) → IsEnd wave t x
-      → reward wave ≤ reach_cost wave old t x
+      → old.terms.worth ≤ reach_cost wave old t x
   own_waiting own t is waits =
-      subst (λ t. (x : End) → IsEnd wave t x → reward wave ≤ reach_cost wave old t x) (sym is)
+      subst (λ t. (x : End) → IsEnd wave t x → old.terms.worth ≤ reach_cost wave old t x) (sym is)
       (own.own_wait (sym here_now ∙ ap (λ t. place_of new t) (sym is) ∙ waits))
 
   pub placed_cheapest : AreCheapest wave old → OwnCheapest → AreCheapest wave new
@@ -192,14 +198,16 @@ module _ (wave : Wave) (old new : State) (s : ℕ) (place : Place) (to : IsPlace
         omega arith);
     below_waiting = λ t e stands.
         (let one = placed_reach t e in
-        let below : reach_cost wave old t e ≤ reward wave = elim (cases_eq t s) [
+        let worth = ap (λ (t : Terms). t.worth) to.terms in
+        let below : reach_cost wave old t e ≤ old.terms.worth = elim (cases_eq t s) [
           | inl is ↦ (own_cheapest own t is e stands).2
           | inr n ↦ a.below_waiting t e (sym (other_now t n) ∙ stands)
         ] in
         omega arith);
     waiting = λ t x waits is_end.
         (let two = placed_reach t x in
-        let least : reward wave ≤ reach_cost wave old t x = elim (cases_eq t s) [
+        let worth = ap (λ (t : Terms). t.worth) to.terms in
+        let least : old.terms.worth ≤ reach_cost wave old t x = elim (cases_eq t s) [
           | inl is ↦ own_waiting own t is waits x is_end
           | inr n ↦ a.waiting t x (sym (other_now t n) ∙ waits) is_end
         ] in
@@ -236,7 +244,7 @@ hands_over wave old new s e x kept stands is tight to = record {
     own_end = λ y same.
         (let eq : x ≡ y = grind arith in
         subst (λ y. IsEnd wave s y × ((z : End) → IsEnd wave s z → reach_cost wave old s y ≤ reach_cost wave old s z)
-        × (reach_cost wave old s y ≤ reward wave)) eq (
+        × (reach_cost wave old s y ≤ old.terms.worth)) eq (
           is,
           λ z end. (let least = kept.cheapest.least s e z stands end in omega arith),
           let below = kept.cheapest.below_waiting s e stands in omega arith,
@@ -246,6 +254,7 @@ hands_over wave old new s e x kept stands is tight to = record {
   level = placed_level wave old new s (Stands x) to kept.level;
   balanced = placed_balance wave old new s (Stands x) to (Some x.node) (Some e.node) kept.balanced
       (λ v. (let was = ap (λ p. one (stands_under wave.tree v p)) stands in omega arith));
+  fair = rw to.terms kept.fair;
 }
 
 pub sends_off : SendsOff
@@ -257,6 +266,7 @@ sends_off wave old new s e kept stands tight to = record {
   level = placed_level wave old new s Waits to kept.level;
   balanced = placed_balance wave old new s Waits to None (Some e.node) kept.balanced
       (λ v. (let was = ap (λ p. one (stands_under wave.tree v p)) stands in omega arith));
+  fair = rw to.terms kept.fair;
 }
 
 pub ships : Ships
@@ -265,12 +275,13 @@ ships wave old new s x kept not_yet is least below to = record {
     own_end = λ y same.
         (let eq : x ≡ y = grind arith in
         subst (λ y. IsEnd wave s y × ((z : End) → IsEnd wave s z → reach_cost wave old s y ≤ reach_cost wave old s z)
-        × (reach_cost wave old s y ≤ reward wave)) eq (is, least, below));
+        × (reach_cost wave old s y ≤ old.terms.worth)) eq (is, least, below));
     own_wait = λ same. cc;
   });
   level = placed_level wave old new s (Stands x) to kept.level;
   balanced = placed_balance wave old new s (Stands x) to (Some x.node) None kept.balanced
       (λ v. (let was = ap (λ p. one (stands_under wave.tree v p)) not_yet in omega arith));
+  fair = rw to.terms kept.fair;
 }
 
 pub lets_wait : LetsWait
@@ -282,6 +293,7 @@ lets_wait wave old new s kept not_yet least to = record {
   level = placed_level wave old new s Waits to kept.level;
   balanced = placed_balance wave old new s Waits to None None kept.balanced
       (λ v. (let was = ap (λ p. one (stands_under wave.tree v p)) not_yet in omega arith));
+  fair = rw to.terms kept.fair;
 }
 
 -- one worker's number falls by one
@@ -307,7 +319,7 @@ sum_less (suc n) w test f g l here others = elim (cases_eq w n) [
     either false = refl
 
 pub takes_slot : TakesSlot
-takes_slot wave old new w kept to = record {
+takes_slot wave old new w kept to deep = record {
   cheapest = record {
     ends = λ s e stands. kept.cheapest.ends s e (sym (same s) ∙ stands);
     least = λ s e x stands is.
@@ -315,18 +327,32 @@ takes_slot wave old new w kept to = record {
         let one = reach s e in let two = reach s x in omega arith);
     below_waiting = λ s e stands.
         (let below = kept.cheapest.below_waiting s e (sym (same s) ∙ stands) in
+        let worth = ap (λ (t : Terms). t.worth) to.terms in
         let one = reach s e in omega arith);
     waiting = λ s x waits is.
         (let least = kept.cheapest.waiting s x (sym (same s) ∙ waits) is in
+        let worth = ap (λ (t : Terms). t.worth) to.terms in
         let one = reach s x in omega arith);
   };
   level = record {
     down = λ v room. rw to.depth (kept.level.down v (rw to.flow at room));
     up = λ v some. rw to.depth (kept.level.up v (rw to.flow at some));
-    bottom = λ x known some. rw to.depth (kept.level.bottom x known (elim (cases_eq x w) [
-      | inl e ↦ (let here = to.here in let a = ap old.free e in omega arith)
-      | inr n ↦ (let is = to.others x n in omega arith)
-    ]));
+    bottom = λ x known some. rw (to.terms, to.depth) (elim (cases_eq x w) [
+      | inl e ↦
+          (let here = subst (λ (z : ℕ). new.free z + 1 ≡ old.free z) (sym e) to.here in
+          let before = kept.level.bottom x known (omega arith) in
+          let more = kept.fair.rising x (taken wave old x) (taken wave new x) (omega arith) in
+          omega arith)
+      | inr n ↦ (let is = to.others x n in rw is (kept.level.bottom x known (omega arith)))
+    ]);
+    floor = λ x known some. rw (to.terms, to.depth) (elim (cases_eq x w) [
+      | inl e ↦
+          (let here = subst (λ (z : ℕ). new.free z + 1 ≡ old.free z) (sym e) to.here in
+          let own = subst (λ (z : ℕ). old.terms.price z (taken wave old z) ≤ old.depth (Worker z)) (sym e) deep in
+          let same : taken wave new x - 1 ≡ taken wave old x = omega arith in
+          rw same own)
+      | inr n ↦ (let is = to.others x n in rw is (kept.level.floor x known (omega arith)))
+    ]);
   };
   balanced = record {
     size = rw to.places kept.balanced.size;
@@ -337,6 +363,7 @@ takes_slot wave old new w kept to = record {
         to.here to.others in
         omega arith);
   };
+  fair = rw to.terms kept.fair;
 }
   where
     same : (s : ℕ) → place_of new s ≡ place_of old s

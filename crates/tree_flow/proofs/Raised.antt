@@ -1,5 +1,5 @@
 -- Depths that rise or fall by the rest of a bound.
-use Rattle.std.proofs.Common.{◌≡◌, ℕ, Option, refl, sym, ap, ◌∙◌, arith, inl, inr}
+use Rattle.std.proofs.Common.{◌≡◌, ℕ, ◌-◌, Option, refl, sym, ap, ◌∙◌, arith, inl, inr}
 use Rattle.wave_problem.specs.Wave.{Wave}
 use Rattle.std.proofs.lemmas.Bool.{cases_lt}
 use Rattle.tree_flow.specs.Moves.{Caps, SearchBackEnds, SearchEnds}
@@ -8,7 +8,7 @@ use Rattle.tree_flow.specs.declared.nodes.TreeNode.TheVariants.{Worker}
 use Rattle.tree_flow.specs.declared.nodes.End.{End}
 use Rattle.tree_flow.specs.Nodes.{parent}
 use Rattle.tree_flow.specs.declared.nodes.Place.TheVariants.{Stands}
-use Rattle.tree_flow.specs.State.{State, place_of}
+use Rattle.tree_flow.specs.State.{State, Terms, place_of, taken}
 use Rattle.tree_flow.specs.State.{IsBalancedBut}
 use Rattle.tree_flow.specs.Moves.{Raises, Lowers}
 
@@ -39,9 +39,11 @@ raises wave old new far bound hole kept near raised = record {
         (let below = kept.cheapest.below_waiting s e (was s e stands) in
         let out = near.out s e (was s e stands) in
         let one = raised.depth e.node in
+        let worth = ap (λ (t : Terms). t.worth) raised.terms in
         omega arith);
     waiting = λ s x waits is.
         (let least = kept.cheapest.waiting s x (sym (same_place old new s raised.places) ∙ waits) is in
+        let worth = ap (λ (t : Terms). t.worth) raised.terms in
         let one = raised.depth x.node in
         omega arith);
   };
@@ -61,20 +63,27 @@ raises wave old new far bound hole kept near raised = record {
         let two = raised.depth (parent wave.tree v) in
         omega arith);
     bottom = λ w known some.
+        rw (raised.terms, raised.free)
         (let r = rw raised.free at some in
-        let zero = kept.level.bottom w known r in
+        let most = kept.level.bottom w known r in
         let step = near.bottom w known r in
+        let one = raised.depth (Worker w) in
+        omega arith);
+    floor = λ w known some.
+        rw (raised.terms, raised.free)
+        (let least = kept.level.floor w known (rw raised.free at some) in
         let one = raised.depth (Worker w) in
         omega arith);
   };
   balanced = same_balance wave old new hole raised.places raised.flow raised.free kept.balanced;
+  fair = rw raised.terms kept.fair;
 }
   where
     was : (s : ℕ) (e : End) → place_of new s ≡ Stands e → place_of old s ≡ Stands e
     was s e stands = sym (same_place old new s raised.places) ∙ stands
 
 pub lowers : Lowers
-lowers wave old new far bound hole kept near lowered = record {
+lowers wave old new far bound hole free kept near lowered = record {
   cheapest = record {
     ends = λ s e stands. kept.cheapest.ends s e (was s e stands);
     least = λ s e x stands is.
@@ -88,12 +97,14 @@ lowers wave old new far bound hole kept near lowered = record {
     below_waiting = λ s e stands.
         (let below = kept.cheapest.below_waiting s e (was s e stands) in
         let one = lowered.depth e.node in
+        let worth = ap (λ (t : Terms). t.worth) lowered.terms in
         omega arith);
     waiting = λ s x waits is.
         (let before = sym (same_place old new s lowered.places) ∙ waits in
         let least = kept.cheapest.waiting s x before is in
         let step = near.waits s x before is in
         let one = lowered.depth x.node in
+        let worth = ap (λ (t : Terms). t.worth) lowered.terms in
         let low = near.low x.node in
         omega arith);
   };
@@ -115,13 +126,18 @@ lowers wave old new far bound hole kept near lowered = record {
         let low = near.low (parent wave.tree v) in
         omega arith);
     bottom = λ w known some.
-        (let r = rw lowered.free at some in
-        let zero = kept.level.bottom w known r in
+        rw (lowered.terms, lowered.free)
+        (let zero = kept.level.bottom w known (rw lowered.free at some) in
         let one = lowered.depth (Worker w) in
+        omega arith);
+    floor = λ w known some.
+        rw (lowered.terms, lowered.free)
+        (let zero = free w (taken wave old w - 1) in
         omega arith);
   };
   balanced = same_balance wave old new hole lowered.places lowered.flow lowered.free
       kept.balanced;
+  fair = rw lowered.terms kept.fair;
 }
   where
     was : (s : ℕ) (e : End) → place_of new s ≡ Stands e → place_of old s ≡ Stands e
@@ -149,10 +165,11 @@ search_ends wave state far bound hole kept looked = record {
         | inl near ↦ (looked e.node near).out s e stands refl
         | inr past ↦ omega arith
       ]);
-  bottom = λ w known some. elim (cases_lt (far (Worker w)) bound) [
-    | inl near ↦ (looked (Worker w) near).bottom w known refl some
-    | inr past ↦ past
-  ];
+  bottom = λ w known some. (let most = kept.level.bottom w known some in
+      elim (cases_lt (far (Worker w)) bound) [
+        | inl near ↦ (looked (Worker w) near).bottom w known refl some
+        | inr past ↦ omega arith
+      ]);
 }
 
 pub search_back_ends : SearchBackEnds
@@ -196,10 +213,12 @@ caps wave old new hole kept to = record {
     below_waiting = λ s e stands.
         (let below = kept.cheapest.below_waiting s e (was s e stands) in
         let one = to.depth e.node in
+        let worth = ap (λ (t : Terms). t.worth) to.terms in
         omega arith);
     waiting = λ s x waits is.
         (let least = kept.cheapest.waiting s x (sym (same_place old new s to.places) ∙ waits) is in
         let one = to.depth x.node in
+        let worth = ap (λ (t : Terms). t.worth) to.terms in
         omega arith);
   };
   level = record {
@@ -210,10 +229,18 @@ caps wave old new hole kept to = record {
         (let least = kept.level.up v (rw to.flow at some) in
         let one = to.depth v in let two = to.depth (parent wave.tree v) in omega arith);
     bottom = λ w known some.
-        (let nothing = kept.level.bottom w known (rw to.free at some) in
+        rw (to.terms, to.free)
+        (let most = kept.level.bottom w known (rw to.free at some) in
+        let one = to.depth (Worker w) in omega arith);
+    floor = λ w known some.
+        rw (to.terms, to.free)
+        (let r = rw to.free at some in
+        let least = kept.level.floor w known r in
+        let below = kept.fair.capped w (taken wave old w - 1) (omega arith) in
         let one = to.depth (Worker w) in omega arith);
   };
   balanced = same_balance wave old new hole to.places to.flow to.free kept.balanced;
+  fair = rw to.terms kept.fair;
 }
   where
     was : (s : ℕ) (e : End) → place_of new s ≡ Stands e → place_of old s ≡ Stands e

@@ -1,6 +1,6 @@
 -- Steps from state to state that keep what every state keeps to.
 use Rattle.std.specs.Prelude.{ℕ, ◌≡◌, ◌≢◌, ◌+◌, ◌-◌, ◌<◌, ◌≤◌, min, length, slice_set, Option, Some}
-use Rattle.wave_problem.specs.Wave.{Wave, reward}
+use Rattle.wave_problem.specs.Wave.{Wave}
 use Rattle.tree_flow.specs.declared.nodes.TreeNode.{TreeNode}
 use Rattle.tree_flow.specs.declared.nodes.TreeNode.TheVariants.{Worker, Cluster}
 use Rattle.tree_flow.specs.declared.nodes.End.{End}
@@ -8,10 +8,11 @@ use Rattle.tree_flow.specs.declared.nodes.Place.{Place}
 use Rattle.tree_flow.specs.declared.nodes.Place.TheVariants.{Stands, Waits, Unshipped}
 use Rattle.tree_flow.specs.Nodes.{parent, IsEnd}
 use Rattle.tree_flow.specs.State.{State, place_of, reach_cost, sum_under}
-use Rattle.tree_flow.specs.State.{slots_of, IsKept, IsKeptBut}
+use Rattle.tree_flow.specs.State.{slots_of, taken, IsFree, IsKept, IsKeptBut}
 
 -- the units that come to one node have changed, and nothing else
 pub record IsFlowSet (old new : State) (c : TreeNode) (units : ℕ) : Type 0 where
+  pub terms : new.terms ≡ old.terms
   pub places : new.places ≡ old.places
   pub depth : new.depth ≡ old.depth
   pub free : new.free ≡ old.free
@@ -21,6 +22,7 @@ pub record IsFlowSet (old new : State) (c : TreeNode) (units : ℕ) : Type 0 whe
 -- the place of one split has changed, and nothing else
 pub record IsPlaced (old new : State) (s : ℕ) (place : Place) : Type 0 where
   pub known : s < length old.places
+  pub terms : new.terms ≡ old.terms
   pub places : new.places ≡ slice_set old.places s place
   pub flow : new.flow ≡ old.flow
   pub depth : new.depth ≡ old.depth
@@ -29,6 +31,7 @@ pub record IsPlaced (old new : State) (s : ℕ) (place : Place) : Type 0 where
 -- a worker has one free slot less
 pub record IsTaken (wave : Wave) (old new : State) (w : ℕ) : Type 0 where
   pub known : w < length wave.workers
+  pub terms : new.terms ≡ old.terms
   pub places : new.places ≡ old.places
   pub flow : new.flow ≡ old.flow
   pub depth : new.depth ≡ old.depth
@@ -56,12 +59,13 @@ HandsOver = (wave : Wave) (old new : State) (s : ℕ) (e x : End) → IsKeptBut 
 -- a split waits, where that is as cheap: a hole begins
 abbrev pub SendsOff : Type 0
 SendsOff = (wave : Wave) (old new : State) (s : ℕ) (e : End) → IsKept wave old
-    → place_of old s ≡ Stands e → reach_cost wave old s e ≡ reward wave
+    → place_of old s ≡ Stands e → reach_cost wave old s e ≡ old.terms.worth
     → IsPlaced old new s Waits → IsKeptBut wave new (Some e.node)
 
--- or a free slot is taken
+-- or a free slot is taken, of a worker that lies as deep as its next place costs
 abbrev pub TakesSlot : Type 0
 TakesSlot = (wave : Wave) (old new : State) (w : ℕ) → IsKept wave old → IsTaken wave old new w
+    → old.terms.price w (taken wave old w) ≤ old.depth (Worker w)
     → IsKeptBut wave new (Some (Worker w))
 
 -- a split that was not shipped fills the hole
@@ -69,13 +73,13 @@ abbrev pub Ships : Type 0
 Ships = (wave : Wave) (old new : State) (s : ℕ) (x : End) → IsKeptBut wave old (Some x.node)
     → place_of old s ≡ Unshipped → IsEnd wave s x
     → ((y : End) → IsEnd wave s y → reach_cost wave old s x ≤ reach_cost wave old s y)
-    → reach_cost wave old s x ≤ reward wave
+    → reach_cost wave old s x ≤ old.terms.worth
     → IsPlaced old new s (Stands x) → IsKept wave new
 
 -- or waits at once
 abbrev pub LetsWait : Type 0
 LetsWait = (wave : Wave) (old new : State) (s : ℕ) → IsKept wave old → place_of old s ≡ Unshipped
-    → ((y : End) → IsEnd wave s y → reward wave ≤ reach_cost wave old s y)
+    → ((y : End) → IsEnd wave s y → old.terms.worth ≤ reach_cost wave old s y)
     → IsPlaced old new s Waits → IsKept wave new
 
 -- distances forward, as far as a bound: no step leads to a node nearer than it can be
@@ -87,11 +91,13 @@ pub record AreDistances (wave : Wave) (state : State) (far : TreeNode → ℕ) (
   pub over : (s : ℕ) (e x : End) → place_of state s ≡ Stands e → IsEnd wave s x
       → min bound (far x.node) + reach_cost wave state s e ≤ far e.node + reach_cost wave state s x
   pub out : (s : ℕ) (e : End) → place_of state s ≡ Stands e
-      → bound + reach_cost wave state s e ≤ far e.node + reward wave
-  pub bottom : (w : ℕ) → w < length wave.workers → 0 < state.free w → bound ≤ far (Worker w)
+      → bound + reach_cost wave state s e ≤ far e.node + state.terms.worth
+  pub bottom : (w : ℕ) → w < length wave.workers → 0 < state.free w
+      → bound + state.depth (Worker w) ≤ far (Worker w) + state.terms.price w (taken wave state w)
 
 -- each node nearer than the bound lies deeper by the rest
 pub record IsRaised (old new : State) (far : TreeNode → ℕ) (bound : ℕ) : Type 0 where
+  pub terms : new.terms ≡ old.terms
   pub places : new.places ≡ old.places
   pub flow : new.flow ≡ old.flow
   pub free : new.free ≡ old.free
@@ -111,10 +117,11 @@ pub record AreDistancesBack (wave : Wave) (state : State) (far : TreeNode → �
   pub over : (s : ℕ) (e x : End) → place_of state s ≡ Stands e → IsEnd wave s x
       → min bound (far e.node) + reach_cost wave state s e ≤ far x.node + reach_cost wave state s x
   pub waits : (s : ℕ) (x : End) → place_of state s ≡ Waits → IsEnd wave s x
-      → bound + reward wave ≤ far x.node + reach_cost wave state s x
+      → bound + state.terms.worth ≤ far x.node + reach_cost wave state s x
   pub low : (v : TreeNode) → bound ≤ far v + state.depth v
 
 pub record IsLowered (old new : State) (far : TreeNode → ℕ) (bound : ℕ) : Type 0 where
+  pub terms : new.terms ≡ old.terms
   pub places : new.places ≡ old.places
   pub flow : new.flow ≡ old.flow
   pub free : new.free ≡ old.free
@@ -122,7 +129,7 @@ pub record IsLowered (old new : State) (far : TreeNode → ℕ) (bound : ℕ) : 
 
 abbrev pub Lowers : Type 0
 Lowers = (wave : Wave) (old new : State) (far : TreeNode → ℕ) (bound : ℕ) (hole : Option TreeNode)
-    → IsKeptBut wave old hole → AreDistancesBack wave old far bound → IsLowered old new far bound
+    → IsFree old.terms → IsKeptBut wave old hole → AreDistancesBack wave old far bound → IsLowered old new far bound
     → IsKeptBut wave new hole
 
 -- where each node nearer than the bound has been looked from: no step out of it leads to a node nearer than far
@@ -135,8 +142,9 @@ pub record IsLookedFrom (wave : Wave) (state : State) (far : TreeNode → ℕ) (
   pub over : (s : ℕ) (e x : End) → place_of state s ≡ Stands e → e.node ≡ u → IsEnd wave s x
       → min bound (far x.node) + reach_cost wave state s e ≤ far u + reach_cost wave state s x
   pub out : (s : ℕ) (e : End) → place_of state s ≡ Stands e → e.node ≡ u
-      → bound + reach_cost wave state s e ≤ far u + reward wave
-  pub bottom : (w : ℕ) → w < length wave.workers → u ≡ Worker w → 0 < state.free w → bound ≤ far u
+      → bound + reach_cost wave state s e ≤ far u + state.terms.worth
+  pub bottom : (w : ℕ) → w < length wave.workers → u ≡ Worker w → 0 < state.free w
+      → bound + state.depth u ≤ far u + state.terms.price w (taken wave state w)
 
 -- then they are distances, whatever the search left unlooked at
 abbrev pub SearchEnds : Type 0
@@ -154,7 +162,7 @@ pub record IsLookedTo (wave : Wave) (state : State) (far : TreeNode → ℕ) (bo
   pub over : (s : ℕ) (e x : End) → place_of state s ≡ Stands e → IsEnd wave s x → x.node ≡ u
       → min bound (far e.node) + reach_cost wave state s e ≤ far u + reach_cost wave state s x
   pub waits : (s : ℕ) (x : End) → place_of state s ≡ Waits → IsEnd wave s x → x.node ≡ u
-      → bound + reward wave ≤ far u + reach_cost wave state s x
+      → bound + state.terms.worth ≤ far u + reach_cost wave state s x
   pub low : bound ≤ far u + state.depth u
 
 abbrev pub SearchBackEnds : Type 0
@@ -162,12 +170,13 @@ SearchBackEnds = (wave : Wave) (state : State) (far : TreeNode → ℕ) (bound :
     → IsKeptBut wave state hole
     → ((u : TreeNode) → far u < bound → IsLookedTo wave state far bound u) → AreDistancesBack wave state far bound
 
--- no node has to lie deeper than the reward
+-- no node has to lie deeper than a start is worth
 pub record IsCapped (wave : Wave) (old new : State) : Type 0 where
+  pub terms : new.terms ≡ old.terms
   pub places : new.places ≡ old.places
   pub flow : new.flow ≡ old.flow
   pub free : new.free ≡ old.free
-  pub depth : (v : TreeNode) → new.depth v ≡ min (reward wave) (old.depth v)
+  pub depth : (v : TreeNode) → new.depth v ≡ min old.terms.worth (old.depth v)
 
 abbrev pub Caps : Type 0
 Caps = (wave : Wave) (old new : State) (hole : Option TreeNode) → IsKeptBut wave old hole

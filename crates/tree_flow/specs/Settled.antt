@@ -1,16 +1,17 @@
 -- Plan and prices of a state in which all is settled, and that they certify.
-use Rattle.std.specs.Prelude.{ℕ, ◌≡◌, ◌≢◌, ◌+◌, ◌-◌, ◌<◌, true, max, List, length, Option, Some, None, unwrap_or}
+use Rattle.std.specs.Prelude.{ℕ, All, ◌≡◌, ◌≢◌, ◌+◌, ◌-◌, ◌<◌, true, max, List, length, Option, Some, None, unwrap_or}
 use Rattle.rack_tree.specs.Tree.{Tree, IsWithinReach}
-use Rattle.wave_problem.specs.Wave.{Wave, cost, reward, IsUsable}
-use Rattle.wave_problem.specs.Assignment.{start_of, pairs_of, load, IsBest}
+use Rattle.wave_problem.specs.Wave.{Wave, cost, IsUsable}
+use Rattle.wave_problem.specs.Assignment.{start_of, pairs_of, load}
 use Rattle.price_certificate.specs.PriceList.{PriceList}
-use Rattle.price_certificate.specs.Certificate.{claim, Certifies, split_price, worker_price}
+use Rattle.price_certificate.specs.Places.{full_reward, place_price, IsBestByCharge, IsFitRow}
+use Rattle.price_certificate.specs.Certificate.{charged_claim, Certifies, split_price, worker_price}
 use Rattle.tree_flow.specs.declared.nodes.TreeNode.{TreeNode}
 use Rattle.tree_flow.specs.declared.nodes.TreeNode.TheVariants.{Worker}
 use Rattle.tree_flow.specs.declared.nodes.End.{End}
 use Rattle.tree_flow.specs.declared.nodes.Place.TheVariants.{Stands, Waits}
 use Rattle.tree_flow.specs.Nodes.{is_under, node_above, IsKnown}
-use Rattle.tree_flow.specs.State.{State, place_of, standing_under, IsKept}
+use Rattle.tree_flow.specs.State.{State, Terms, place_of, standing_under, IsKept}
 
 -- a unit can have come down from a node to a worker: units go to each node on the way
 pub record HasComeDown (tree : Tree) (state : State) (v : TreeNode) (w : ℕ) : Type 0 where
@@ -37,17 +38,25 @@ pub record ArePrices (wave : Wave) (state : State) (starts : List (Option ℕ)) 
   pub usable : (w : ℕ) → IsUsable wave.workers w → worker_price prices w ≡ deepest_above wave.tree state w
   pub unusable : (w : ℕ) → (IsUsable wave.workers w → ⊥) → worker_price prices w ≡ 0
   pub started : (s w : ℕ) → start_of starts s ≡ Some w
-      → split_price prices s ≡ reward wave - (worker_price prices w + unwrap_or (cost wave s w) 0)
+      → split_price prices s ≡ state.terms.worth - (worker_price prices w + unwrap_or (cost wave s w) 0)
   pub unstarted : (s : ℕ) → start_of starts s ≡ None → split_price prices s ≡ 0
+
+-- the terms of a wave with these prices of places: each place costs its price, and a start is worth more than any
+-- admissible assignment is charged
+pub record AreTermsOf (wave : Wave) (places : List (List ℕ)) (terms : Terms) : Type 0 where
+  pub worth : terms.worth ≡ full_reward places wave
+  pub price : (w k : ℕ) → terms.price w k ≡ place_price places w k
 
 -- the prices certify the plan
 abbrev pub EngineCertifies : Type 0
-EngineCertifies = (wave : Wave) (state : State) (starts : List (Option ℕ)) (prices : PriceList)
-    → IsWithinReach wave.tree → IsKnown wave → IsKept wave state → IsHandedDown wave state starts
-    → ArePrices wave state starts prices → Certifies (claim wave starts prices)
+EngineCertifies = (wave : Wave) (places : List (List ℕ)) (state : State) (starts : List (Option ℕ))
+    (prices : PriceList) → AreTermsOf wave places state.terms → IsWithinReach wave.tree → IsKnown wave
+    → IsKept wave state → IsHandedDown wave state starts → ArePrices wave state starts prices
+    → Certifies (charged_claim wave places starts prices)
 
 -- so that the plan is best
 abbrev pub EngineIsBest : Type 0
-EngineIsBest = (wave : Wave) (state : State) (starts : List (Option ℕ)) → IsWithinReach wave.tree
-    → IsKnown wave → IsKept wave state → IsHandedDown wave state starts
-    → (prices : PriceList) → ArePrices wave state starts prices → IsBest wave (pairs_of starts)
+EngineIsBest = (wave : Wave) (places : List (List ℕ)) (state : State) (starts : List (Option ℕ))
+    (prices : PriceList) → All IsFitRow places → AreTermsOf wave places state.terms → IsWithinReach wave.tree
+    → IsKnown wave → IsKept wave state → IsHandedDown wave state starts → ArePrices wave state starts prices
+    → IsBestByCharge places wave (pairs_of starts)

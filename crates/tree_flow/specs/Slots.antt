@@ -1,30 +1,31 @@
 -- Slots that come back.
-use Rattle.std.specs.Prelude.{ℕ, ◌≡◌, ◌≢◌, ◌+◌, ◌<◌, ◌≤◌, true, ◌↔◌, List, max, length, Option, Some, All}
+use Rattle.std.specs.Prelude.{ℕ, ◌≡◌, ◌≢◌, ◌+◌, ◌-◌, ◌<◌, ◌≤◌, true, ◌↔◌, List, max, length, Option, Some, All}
 use Rattle.wave_problem.specs.declared.lines.WorkerLine.{WorkerLine}
-use Rattle.wave_problem.specs.Wave.{Wave, reward}
+use Rattle.wave_problem.specs.Wave.{Wave}
 use Rattle.tree_flow.specs.declared.nodes.TreeNode.{TreeNode}
 use Rattle.tree_flow.specs.declared.nodes.TreeNode.TheVariants.{Worker}
 use Rattle.tree_flow.specs.declared.nodes.End.{End}
 use Rattle.tree_flow.specs.declared.nodes.Place.TheVariants.{Stands, Waits, Unshipped}
 use Rattle.tree_flow.specs.Nodes.{parent, is_under, IsEnd, end_cost}
-use Rattle.tree_flow.specs.State.{State, place_of, reach_cost, sum_under, slots_of, IsKept}
-use Rattle.tree_flow.specs.State.{IsKeptBut}
+use Rattle.tree_flow.specs.State.{State, place_of, reach_cost, sum_under, slots_of, taken, AreFair}
+use Rattle.tree_flow.specs.State.{IsFree, IsKept, IsKeptBut}
 use Rattle.tree_flow.specs.Moves.{IsPlaced, IsTaken}
 
--- a hole at a worker of depth 0 becomes a free slot
+-- a hole at a worker that lies no deeper than its last place costs becomes a free slot
 abbrev pub GivesSlot : Type 0
 GivesSlot = (wave : Wave) (old new : State) (w : ℕ) → IsKeptBut wave old (Some (Worker w))
-    → old.depth (Worker w) ≡ 0 → IsTaken wave new old w → IsKept wave new
+    → old.depth (Worker w) ≤ old.terms.price w (taken wave old w - 1) → IsTaken wave new old w → IsKept wave new
 
 -- or a split that waits fills it
 abbrev pub Joins : Type 0
 Joins = (wave : Wave) (old new : State) (s : ℕ) (x : End) → IsKeptBut wave old (Some x.node)
-    → place_of old s ≡ Waits → IsEnd wave s x → reach_cost wave old s x ≡ reward wave
+    → place_of old s ≡ Waits → IsEnd wave s x → reach_cost wave old s x ≡ old.terms.worth
     → IsPlaced old new s (Stands x) → IsKept wave new
 
 -- a node that the units from its parent fill lies as deep as its parent
 pub record IsDeepened (wave : Wave) (old new : State) (u : TreeNode) : Type 0 where
   pub full : old.flow u ≡ sum_under wave u (slots_of wave)
+  pub terms : new.terms ≡ old.terms
   pub places : new.places ≡ old.places
   pub flow : new.flow ≡ old.flow
   pub free : new.free ≡ old.free
@@ -49,7 +50,8 @@ pub record HasSlotMore (wave : Wave) (workers : List WorkerLine) (w : ℕ) : Typ
 
 -- it is a hole there, where no node above the worker lies higher than its parent
 abbrev pub AddsSlot : Type 0
-AddsSlot = (wave : Wave) (workers : List WorkerLine) (state : State) (w : ℕ) → IsKept wave state
+AddsSlot = (wave : Wave) (workers : List WorkerLine) (state : State) (w : ℕ) → IsFree state.terms
+    → IsKept wave state
     → HasSlotMore wave workers w
     → ((u : TreeNode) → is_under wave.tree (Worker w) u ≡ true
     → state.depth (parent wave.tree u) ≤ state.depth u)
@@ -62,7 +64,7 @@ TakesOff = (wave : Wave) (old new : State) (s : ℕ) (e : End) → IsKept wave o
 
 -- at a hole a worker can give a slot less
 abbrev pub RemovesSlot : Type 0
-RemovesSlot = (wave : Wave) (workers : List WorkerLine) (state : State) (w : ℕ)
+RemovesSlot = (wave : Wave) (workers : List WorkerLine) (state : State) (w : ℕ) → IsFree state.terms
     → IsKeptBut (with_workers wave workers) state (Some (Worker w))
     → HasSlotMore wave workers w → IsKept wave state
 
@@ -72,7 +74,6 @@ pub record IsAnother (old new : Wave) (state : State) : Type 0 where
   pub size : length new.splits ≡ length old.splits
   pub workers : length new.workers ≡ length old.workers
   pub slots : (w : ℕ) → slots_of new w ≡ slots_of old w
-  pub same_reward : reward new ≡ reward old
   pub others : (s : ℕ) → (place_of state s ≡ Unshipped → ⊥)
       → ((e : End) → end_cost new s e ≡ end_cost old s e) × ((e : End) → IsEnd new s e ↔ IsEnd old s e)
 
@@ -81,8 +82,9 @@ abbrev pub Changes : Type 0
 Changes = (wave other : Wave) (state : State) → IsKept wave state → IsAnother wave other state
     → IsKept other state
 
--- a state in which all slots are free, nothing is shipped, and all lies at 0
+-- a state on fair terms in which all slots are free, nothing is shipped, and all lies at 0
 pub record IsFresh (wave : Wave) (state : State) : Type 0 where
+  pub fair : AreFair wave state.terms
   pub size : length state.places ≡ length wave.splits
   pub places : All (λ place. place ≡ Unshipped) state.places
   pub flow : (v : TreeNode) → state.flow v ≡ 0
