@@ -4,8 +4,8 @@ use Rattle.std.proofs.Common.{inl, inr, arith}
 use Rattle.std.specs.Prelude.{◌≢◌}
 use Rattle.std.proofs.lemmas.Bool.{cases_lt}
 use Rattle.rack_tree.specs.Tree.{Tree}
-use Rattle.wave_problem.specs.Wave.{reward}
 use Rattle.tree_flow.specs.declared.nodes.TreeNode.{TreeNode}
+use Rattle.tree_flow.specs.declared.nodes.TreeNode.TheVariants.{Worker}
 use Rattle.tree_flow.specs.declared.node_table.NodeTable.{NodeTable}
 use Rattle.tree_flow.specs.Table.{at_or}
 use Rattle.tree_flow.proofs.Moved.{same_or_not}
@@ -13,14 +13,14 @@ use Rattle.tree_planner.specs.declared.search.Goal.TheVariants.{Wait}
 use Rattle.tree_planner.specs.declared.search.Ground.{Ground}
 use Rattle.tree_planner.specs.declared.search.Search.{Search}
 use Rattle.tree_planner.specs.Searching.{far_at, order_at, place_at, reached_at, state_at, wave_of}
-use Rattle.tree_planner.specs.Searching.{HasReached}
+use Rattle.tree_planner.specs.Searching.{worth_at, HasReached}
 use Rattle.tree_planner.specs.Searching.{HasTables, IsBlank, IsCovered, IsGround, IsSearching}
 use Rattle.tree_planner.specs.declared.covers.Cover.{Cover}
 use Rattle.tree_planner.specs.Covers.{no_cover, IsOverInner}
 use Rattle.tree_planner.specs.Lows.{AreLow}
 
 pub begun : (g : Ground) → IsGround g → (search : Search) → IsBlank (wave_of g).tree (length g.nodes.now) search
-    → (split least : ℕ) → split < length (wave_of g).splits → least ≤ reward (wave_of g)
+    → (split least : ℕ) → split < length (wave_of g).splits → least ≤ worth_at g
     → (covers : NodeTable Cover) → IsOverInner (wave_of g).tree covers
     → ((u : TreeNode) → at_or covers no_cover u ≡ no_cover)
     → AreLow (wave_of g) (state_at g) search.lows
@@ -73,8 +73,8 @@ begun g ground search blank split least known most covers over uncovered low =
       steps = λ v less. absurd (let far = blank.far v in omega arith);
       level = λ u v some none. absurd (let first = blank.none u in omega arith);
       goal = refl;
-      bottom = λ v some. (let far = blank.far v in omega arith);
-      shut = λ v some. absurd (let none = blank.none v in omega arith);
+      bottom = λ w there some.
+          (let far = blank.far (Worker w) in let deep = ground.kept.level.bottom w there some in omega arith);
       covered = λ u. subst (λ cover. IsCovered g begins cover u) (sym (uncovered u)) (record {
         known = omega arith;
         near = λ v left. omega arith;
@@ -88,11 +88,11 @@ IsLater search k v = (j : ℕ) × (k ≤ j) × (j < search.reached.count) × (re
 
 -- the node is as if it had not been come to, or stands there
 abbrev pub IsForgotten : Search → Search → ℕ → TreeNode → Type 0
-IsForgotten old now k v = ((2 ^ 54 ≤ far_at now v) × (order_at now v ≡ 0)) ⊎ IsLater old k v
+IsForgotten old now k v = ((2 ^ 60 ≤ far_at now v) × (order_at now v ≡ 0)) ⊎ IsLater old k v
 
-pub forgotten_first : (tree : Tree) (old : Search) → HasReached tree old → old.limit < 2 ^ 54 → (v : TreeNode)
+pub forgotten_first : (tree : Tree) (old : Search) → HasReached tree old → old.limit < 2 ^ 60 → (v : TreeNode)
     → IsForgotten old old 0 v
-forgotten_first tree old r short v = elim (cases_lt (far_at old v) (2 ^ 54)) [
+forgotten_first tree old r short v = elim (cases_lt (far_at old v) (2 ^ 60)) [
   | inl near ↦ inr (let at = r.placed v near in (place_at old v, omega arith, at.0, at.1))
   | inr past ↦ inl (
     past,
@@ -104,7 +104,7 @@ forgotten_first tree old r short v = elim (cases_lt (far_at old v) (2 ^ 54)) [
 ]
 
 pub forgotten_next : (old now new : Search) (k : ℕ) (node : TreeNode) → reached_at old k ≡ node
-    → 2 ^ 54 ≤ far_at new node → order_at new node ≡ 0
+    → 2 ^ 60 ≤ far_at new node → order_at new node ≡ 0
     → ((v : TreeNode) → v ≢ node → far_at new v ≡ far_at now v)
     → ((v : TreeNode) → v ≢ node → order_at new v ≡ order_at now v)
     → (v : TreeNode) → IsForgotten old now k v → IsForgotten old new (k + 1) v

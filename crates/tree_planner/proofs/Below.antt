@@ -1,5 +1,5 @@
 -- Free slots under a node, and the way up from one.
-use Rattle.std.proofs.Common.{◌≡◌, ℕ, zero, suc, ◌+◌, ◌<◌, true, length, sym, ap, ◌∙◌, subst, refl}
+use Rattle.std.proofs.Common.{◌≡◌, ℕ, zero, suc, ◌+◌, ◌<◌, ◌≤◌, true, length, sym, ap, ◌∙◌, subst, refl}
 use Rattle.std.proofs.Common.{inl, inr, arith}
 use Rattle.std.specs.Prelude.{◌≢◌, Some}
 use Rattle.std.proofs.lemmas.Bool.{false≢true}
@@ -8,7 +8,7 @@ use Rattle.wave_problem.specs.Wave.{Wave}
 use Rattle.tree_flow.specs.declared.nodes.TreeNode.{TreeNode}
 use Rattle.tree_flow.specs.declared.nodes.TreeNode.TheVariants.{Worker, Rack, Centre, Cluster}
 use Rattle.tree_flow.specs.Nodes.{is_under, node_above, parent, IsKnown}
-use Rattle.tree_flow.specs.State.{State, sum_under, slots_of, IsKept, IsKeptBut}
+use Rattle.tree_flow.specs.State.{State, sum_under, slots_of, taken, IsKept, IsKeptBut}
 use Rattle.tree_flow.specs.Moves.{IsFlowSet}
 use Rattle.tree_flow.proofs.Given.{under_parent}
 use Rattle.tree_flow.proofs.Moved.{parent_under, pushes_down, same_or_not, under_own}
@@ -56,34 +56,6 @@ free_there wave t tables w known some =
     let own = under_worker wave (state_of t).free w known in
     omega arith
 
--- above a free slot all nodes lie at 0
-module _ (wave : Wave) (state : State) (kept : IsKept wave state) (w : ℕ) (l : w < length wave.workers)
-    (some : 0 < state.free w) where
-  room_above : (u : TreeNode) → is_under wave.tree (Worker w) u ≡ true → state.flow u < sum_under wave u (slots_of wave)
-  room_above u under =
-      let each = kept.balanced.each u in
-      let least = under-le wave u state.free w l under in
-      omega arith
-
-  flat_next : (j : ℕ) → j < 3 → state.depth (node_above wave.tree j w) ≡ 0 → state.depth (node_above wave.tree (suc j) w) ≡ 0
-  flat_next zero m before =
-      let down = kept.level.down (node_above wave.tree 0 w) (room_above (node_above wave.tree 0 w) (own_above wave.tree 0 w)) in
-      omega arith
-  flat_next (suc zero) m before =
-      let down = kept.level.down (node_above wave.tree 1 w) (room_above (node_above wave.tree 1 w) (own_above wave.tree 1 w)) in
-      omega arith
-  flat_next (suc (suc zero)) m before =
-      let down = kept.level.down (node_above wave.tree 2 w) (room_above (node_above wave.tree 2 w) (own_above wave.tree 2 w)) in
-      omega arith
-  flat_next (suc (suc (suc j))) m before = absurd (omega arith)
-
-  flat_level : (j : ℕ) → j < 4 → state.depth (node_above wave.tree j w) ≡ 0
-  flat_level zero m = kept.level.bottom w l some
-  flat_level (suc j) m = flat_next j (omega arith) (flat_level j (omega arith))
-
-  pub flat_above : (u : TreeNode) → is_under wave.tree (Worker w) u ≡ true → state.depth u ≡ 0
-  flat_above u under = let at = which_above wave.tree w u under in ap state.depth at.2 ∙ flat_level at.0 at.1
-
 -- what is under the parent's node is under the node too
 pub lower_under : (tree : Tree) (c v : TreeNode) → c ≢ Cluster → is_under tree (parent tree c) v ≡ true
     → is_under tree c v ≡ true
@@ -98,7 +70,65 @@ only_top tree (Rack r) u = absurd (false≢true u)
 only_top tree (Centre c) u = absurd (false≢true u)
 only_top tree Cluster u = refl
 
--- a hole goes up one step, where all nodes above it lie at 0
+-- above a free slot no node lies deeper than one under it
+module _ (wave : Wave) (state : State) (kept : IsKept wave state) (w : ℕ) (l : w < length wave.workers)
+    (some : 0 < state.free w) where
+  room_above : (u : TreeNode) → is_under wave.tree (Worker w) u ≡ true → state.flow u < sum_under wave u (slots_of wave)
+  room_above u under =
+      let each = kept.balanced.each u in
+      let least = under-le wave u state.free w l under in
+      omega arith
+
+  deep_next : (c v : TreeNode) → is_under wave.tree (Worker w) c ≡ true
+      → (is_under wave.tree (parent wave.tree c) v ≡ true → state.depth v ≤ state.depth (parent wave.tree c))
+      → is_under wave.tree c v ≡ true → state.depth v ≤ state.depth c
+  deep_next c v own above under = elim (same_or_not v c) [
+    | inl e ↦ (let same = ap state.depth e in omega arith)
+    | inr n ↦
+        (let down = kept.level.down c (room_above c own) in
+        let more = above (sym (parent_under wave.tree c v n) ∙ under) in
+        omega arith)
+  ]
+
+  deep_top : (v : TreeNode) → is_under wave.tree Cluster v ≡ true → state.depth v ≤ state.depth Cluster
+  deep_top v under = (let same = ap state.depth (only_top wave.tree v under) in omega arith)
+
+  deep_two : (v : TreeNode) → is_under wave.tree (node_above wave.tree 2 w) v ≡ true
+      → state.depth v ≤ state.depth (node_above wave.tree 2 w)
+  deep_two v = deep_next (node_above wave.tree 2 w) v (own_above wave.tree 2 w) (deep_top v)
+
+  deep_one : (v : TreeNode) → is_under wave.tree (node_above wave.tree 1 w) v ≡ true
+      → state.depth v ≤ state.depth (node_above wave.tree 1 w)
+  deep_one v = deep_next (node_above wave.tree 1 w) v (own_above wave.tree 1 w) (deep_two v)
+
+  deep_own : (v : TreeNode) → is_under wave.tree (Worker w) v ≡ true → state.depth v ≤ state.depth (Worker w)
+  deep_own v = deep_next (Worker w) v (own_above wave.tree 0 w) (deep_one v)
+
+  deep_at : (j : ℕ) (v : TreeNode) → is_under wave.tree (node_above wave.tree j w) v ≡ true
+      → state.depth v ≤ state.depth (node_above wave.tree j w)
+  deep_at zero v = deep_own v
+  deep_at (suc zero) v = deep_one v
+  deep_at (suc (suc zero)) v = deep_two v
+  deep_at (suc (suc (suc j))) v = deep_top v
+
+  module _ (v : TreeNode) (above : is_under wave.tree (Worker w) v ≡ true)
+      (cheap : state.terms.price w (taken wave state w) ≤ state.depth v) where
+    -- the worker lies as deep as its next place costs, where a node above it does
+    pub deep_enough : state.terms.price w (taken wave state w) ≤ state.depth (Worker w)
+    deep_enough = (let deep = deep_own v above in omega arith)
+
+    -- and so do the nodes between
+    pub flat_between : (u : TreeNode) → is_under wave.tree (Worker w) u ≡ true → is_under wave.tree u v ≡ true
+        → state.depth u ≡ state.depth v
+    flat_between u over under =
+        let at = which_above wave.tree w u over in
+        let deep = deep_own u over in
+        let low = deep_at at.0 v (ap (λ u. is_under wave.tree u v) (sym at.2) ∙ under) in
+        let same = ap state.depth at.2 in
+        let bottom = kept.level.bottom w l some in
+        omega arith
+
+-- a hole goes up one step, where all nodes up to the last lie as deep as that
 module _ (wave : Wave) (old new : State) (c v : TreeNode) (under : is_under wave.tree c v ≡ true) (n : c ≢ v) where
   pub not_top : c ≢ Cluster
   not_top e = n (e ∙ sym (only_top wave.tree v (subst (λ c. is_under wave.tree c v ≡ true) e under)))
@@ -106,9 +136,10 @@ module _ (wave : Wave) (old new : State) (c v : TreeNode) (under : is_under wave
   pub under_next : is_under wave.tree (parent wave.tree c) v ≡ true
   under_next = sym (parent_under wave.tree c v (λ e. n (sym e))) ∙ under
 
-  pub raise_next : ((u : TreeNode) → is_under wave.tree c u ≡ true → old.depth u ≡ 0) → IsKeptBut wave old (Some c)
+  pub raise_next : ((u : TreeNode) → is_under wave.tree c u ≡ true → is_under wave.tree u v ≡ true
+      → old.depth u ≡ old.depth v) → IsKeptBut wave old (Some c)
       → IsFlowSet old new c (old.flow c + 1) → IsKeptBut wave new (Some (parent wave.tree c))
   raise_next flat kept set =
-      let here = flat c (under_own wave.tree c) in
-      let above = flat (parent wave.tree c) (under_parent wave.tree c c (under_own wave.tree c)) in
+      let here = flat c (under_own wave.tree c) under in
+      let above = flat (parent wave.tree c) (under_parent wave.tree c c (under_own wave.tree c)) under_next in
       pushes_down wave old new c kept not_top (above ∙ sym here) set

@@ -1,7 +1,7 @@
 -- Ends in groups, in a search.
 use Rattle.std.proofs.Common.{◌≡◌, refl, ℕ, ◌+◌, ◌*◌, ◌<◌, ◌≤◌, inl, inr, List, length, get_or, Contains, subst, sym, ap, ◌∙◌, arith}
 use Rattle.std.proofs.lemmas.List.Elements.{Contains-get_or}
-use Rattle.wave_problem.specs.Wave.{reward, split_at, Wave}
+use Rattle.wave_problem.specs.Wave.{split_at, Wave}
 use Rattle.tree_flow.specs.declared.nodes.End.{End}
 use Rattle.tree_flow.specs.Nodes.{is_under, IsEnd, IsNode}
 use Rattle.tree_flow.specs.Table.{HasNode}
@@ -13,7 +13,7 @@ use Rattle.tree_planner.specs.declared.split_ends.Group.{Group}
 use Rattle.tree_planner.specs.declared.split_ends.Group.TheVariants.{Below}
 use Rattle.tree_planner.specs.Ends.{ends_at, AreEnds, Grouped, HasEnd, IsBarred, IsLeft, IsOf}
 use Rattle.tree_planner.specs.Searching.{state_at, wave_of, AreOf, Improves, IsCovered, IsGround, IsLeaving, IsOut, IsOverTo, IsSearching}
-use Rattle.tree_planner.specs.Searching.{far_at, IsOutBy, IsStartedAt}
+use Rattle.tree_planner.specs.Searching.{far_at, worth_at, IsOutBy, IsStartedAt}
 use Rattle.tree_planner.specs.Choosing.{IsLeast}
 use Rattle.tree_planner.specs.Covers.{IsInner, IsOverInner}
 use Rattle.tree_flow.specs.State.{reach_cost}
@@ -107,7 +107,7 @@ inner_entry tree covers Cluster over inner = tt
 -- what an earlier cover does not tell is left out by its split
 pub rest_over : (g : Ground) (search : Search) (m : Leaving) (Out : TreeNode → Type 0) (u : TreeNode) (level : ℕ)
     → IsLeaving g search m → (cover : Cover) → IsCovered g search cover u
-    → cover.offset + m.spent ≤ m.far + (split_at (wave_of g) m.split).bytes * (2 * level) + reward (wave_of g)
+    → cover.offset + m.spent ≤ m.far + (split_at (wave_of g) m.split).bytes * (2 * level) + worth_at g
     → ((v : TreeNode) → IsOut g cover.split v → IsLeft (wave_of g).tree Out u v
     → IsOverTo g search m.end m.split (record { node = v; level = level }))
     → (v : TreeNode) → IsLeft (wave_of g).tree Out u v → IsOverTo g search m.end m.split (record { node = v; level = level })
@@ -126,7 +126,7 @@ rest_over g search m Out u level leaving cover covered less rest v l =
 -- all steps of a split to nodes below a node make a cover
 pub over_covers : (g : Ground) (search : Search) (m : Leaving) (ends : Grouped) (u : TreeNode) (level : ℕ)
     → IsLeaving g search m → ends ≡ ends_at g.ends.now m.split → (offset : ℕ)
-    → offset + m.spent ≡ m.far + (split_at (wave_of g) m.split).bytes * (2 * level) + reward (wave_of g)
+    → offset + m.spent ≡ m.far + (split_at (wave_of g) m.split).bytes * (2 * level) + worth_at g
     → ((x : End) → IsOf (wave_of g).tree (IsOutBy g ends) (Below u level) x → IsOverTo g search m.end m.split x)
     → IsCovered g search (record { offset = offset; split = m.split }) u
 over_covers g search m ends u level leaving is offset same over = record {

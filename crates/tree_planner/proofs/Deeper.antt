@@ -50,10 +50,10 @@ module _ (tree : Tree) (search : Search) (r : HasReached tree search) (most : �
             (others v (λ e. none k (omega arith) (sym e)) ∙ before.left v (λ j m. none j (omega arith)));
       }
 
-  pub all_deeper : (new : NodeTable ℕ) → most < 2 ^ 54 → ((v : TreeNode) → at_node old v ≤ most)
+  pub all_deeper : (new : NodeTable ℕ) → most < 2 ^ 60 → ((v : TreeNode) → at_node old v ≤ most)
       → search.bound ≤ search.limit → search.limit ≤ most
       → AreDeeperTo most old search new search.reached.count → AreDeeper most old search new
-  all_deeper new small low bound limit all v = elim (cases_lt (far_at search v) (2 ^ 54)) [
+  all_deeper new small low bound limit all v = elim (cases_lt (far_at search v) (2 ^ 60)) [
     | inl near ↦
         (let at = r.placed v near in
         subst (λ v. IsDeeper most old search new v) at.1 (all.done (place_at search v) at.0))

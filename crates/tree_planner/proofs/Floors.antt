@@ -94,7 +94,7 @@ module _ (old new : Search) (rest : AreFloorsNew old new) where
 
   pub floors_kept : (g : Ground) → IsSearching g old
       → length new.reached.floors.items ≡ length old.reached.floors.items
-      → ((v : TreeNode) → far_at old v < 2 ^ 54 → order_at old v ≡ 0
+      → ((v : TreeNode) → far_at old v < 2 ^ 60 → order_at old v ≡ 0
       → floor_at new (place_at old v) ≤ far_at old v)
       → IsSearching g new
   floors_kept g s size low = subst (λ m. IsSearching g m) (sym rest) (record {
@@ -125,7 +125,6 @@ module _ (old new : Search) (rest : AreFloorsNew old new) where
     level = s.level;
     goal = ends_kept old raised raised_nearer (λ u x b. b) (λ u some. some) g old.bound old.goal s.goal;
     bottom = s.bottom;
-    shut = s.shut;
     covered = λ u. cover_kept old raised raised_nearer g (cover_at old u) u (s.covered u);
     low = s.low;
   })
@@ -153,7 +152,7 @@ module _ (g : Ground) (old : Search) (row : Reached) (low : LowBlock) (best : Ca
     (rest : row ≡ record old.reached { floors = row.floors })
     (set : row.floors.items ≡ slice_set old.reached.floors.items low.block best.far)
     (is : IsLowest old.reached low old.bound) (candidate : IsCandidate old best)
-    (least : (v : TreeNode) → far_at old v < 2 ^ 54 → order_at old v ≡ 0 → place_at old v / 32 ≡ low.block
+    (least : (v : TreeNode) → far_at old v < 2 ^ 60 → order_at old v ≡ 0 → place_at old v / 32 ≡ low.block
     → best.far ≤ far_at old v) (s : IsSearching g old) where
   abbrev new : Search
   new = record old { reached = row }

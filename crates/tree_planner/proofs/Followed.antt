@@ -1,6 +1,6 @@
 -- A hole goes back along a way that costs nothing.
 use Rattle.std.specs.Prelude.{MatchOption}
-use Rattle.std.proofs.Common.{◌≡◌, ℕ, ◌+◌, ◌-◌, ◌<◌, Option, Some, None, sym, ap, ◌∙◌, subst, inl, inr, arith}
+use Rattle.std.proofs.Common.{◌≡◌, ℕ, ◌+◌, ◌-◌, ◌<◌, ◌≤◌, Option, Some, None, sym, ap, ◌∙◌, subst, inl, inr, arith}
 use Rattle.std.specs.Prelude.{◌≢◌}
 use Rattle.std.proofs.lemmas.Bool.{cases_eq}
 use Rattle.wave_problem.specs.Wave.{Wave}
@@ -15,7 +15,7 @@ use Rattle.tree_planner.specs.declared.search.Step.{Step}
 use Rattle.tree_planner.specs.declared.search.Step.TheVariants.{Start, Down, Up, Over}
 use Rattle.tree_flow.specs.Moves.{IsFlowSet, IsPlaced}
 use Rattle.tree_flow.specs.Nodes.{parent, IsNode}
-use Rattle.tree_flow.specs.State.{State, place_of, reach_cost, sum_under, IsKept, IsKeptBut}
+use Rattle.tree_flow.specs.State.{State, Terms, place_of, reach_cost, IsKept, IsKeptBut}
 use Rattle.tree_planner.specs.Searching.{order_at, step_at}
 use Rattle.tree_planner.specs.Way.{left_of, AreOthersSame, IsFollowing, IsOnWay, IsReady, IsTight, IsTightGoal, SlotIsTight}
 use Rattle.tree_flow.proofs.Moved.{pushes_down, pushes_up, hands_over, sends_off, ships, lets_wait}
@@ -41,11 +41,14 @@ module _ (wave : Wave) (now new : State) (search : Search) (x : TreeNode) (f : I
         ready = f.ready;
         kept = pushes_down wave now new x f.kept t.hangs (omega arith) set;
         known = known;
+        terms = set.terms ∙ f.terms;
         depth = set.depth ∙ f.depth;
         from = t.from;
         unshipped = ap (λ places. place_of (record now { places = places }) search.split) set.places ∙ f.unshipped;
-        flows = λ c some less. set.others c (λ e. (let same = ap (λ v. order_at search v) e in omega arith))
-            ∙ f.flows c some (omega arith);
+        flows = λ c some less.
+            (let other = set.others c (λ e. (let same = ap (λ v. order_at search v) e in omega arith)) in
+            let most = f.flows c some (omega arith) in
+            omega arith);
         places = λ t e stands less. ap (λ places. place_of (record now { places = places }) t) set.places
             ∙ f.places t e stands (omega arith);
       }
@@ -60,18 +63,21 @@ module _ (wave : Wave) (now new : State) (search : Search) (x : TreeNode) (f : I
       let tight = t.tight in
       let before = t.before in
       let some = t.some in
-      let same = f.flows c t.from.settled before in
+      let more = f.flows c t.from.settled before in
       record {
         first = f.first;
         ready = f.ready;
         kept = pushes_up wave now new c (subst (λ v. IsKeptBut wave now (Some v)) (sym t.above) f.kept) t.hangs
             (omega arith) (omega arith) set;
         known = t.known;
+        terms = set.terms ∙ f.terms;
         depth = set.depth ∙ f.depth;
         from = t.from;
         unshipped = ap (λ places. place_of (record now { places = places }) search.split) set.places ∙ f.unshipped;
-        flows = λ d more less. set.others d (λ e. (let same = ap (λ v. order_at search v) e in omega arith))
-            ∙ f.flows d more (omega arith);
+        flows = λ d some less.
+            (let other = set.others d (λ e. (let same = ap (λ v. order_at search v) e in omega arith)) in
+            let most = f.flows d some (omega arith) in
+            omega arith);
         places = λ t e stands less. ap (λ places. place_of (record now { places = places }) t) set.places
             ∙ f.places t e stands (omega arith);
       }
@@ -106,10 +112,12 @@ module _ (wave : Wave) (now new : State) (search : Search) (x : TreeNode) (f : I
         ready = f.ready;
         kept = hands_over wave now new t e to f.kept stands o.is_end (omega arith) set;
         known = (f.kept.cheapest.ends t e stands).known;
+        terms = set.terms ∙ f.terms;
         depth = set.depth ∙ f.depth;
         from = subst (λ (e : End). IsOnWay search e.node) same o.from;
         unshipped = other_now wave now new t (Stands to) set search.split other ∙ f.unshipped;
-        flows = λ c some less. ap (λ g. g c) set.flow ∙ f.flows c some (omega arith);
+        flows = λ c some less.
+            (let same = ap (λ g. g c) set.flow in let most = f.flows c some (omega arith) in omega arith);
         places = λ u d stands_there less. other_now wave now new t (Stands to) set u (λ is.
             (let p = ap (λ s. place_of f.first s) is in
             let q = o.stands in
@@ -125,6 +133,7 @@ module _ (wave : Wave) (now new : State) (search : Search) (x : TreeNode) (f : I
       let e : End = record { node = x; level = level } in
       let a = reach_same search.split e in
       let most = t.below_waiting in
+      let worth = ap (λ (t : Terms). t.worth) f.terms in
       ships wave now new search.split e f.kept f.unshipped t.is_end
       (λ y is. (let b = reach_same search.split y in let least = t.least y is in omega arith)) (omega arith) set
 
@@ -138,20 +147,21 @@ module _ (wave : Wave) (old new : State) (search : Search) (r : IsReady wave old
   pub goal_slot : (v : TreeNode) → search.goal ≡ Slot v → SlotIsTight wave old search v
   goal_slot v goal = goal_at (Slot v) goal
 
-  pub follow_slot : (v : TreeNode) → search.goal ≡ Slot v → IsKeptBut wave new (Some v) → new.places ≡ old.places
-      → new.depth ≡ old.depth → ((c : TreeNode) → sum_under wave c old.free ≡ 0 → new.flow c ≡ old.flow c)
+  pub follow_slot : (v : TreeNode) → search.goal ≡ Slot v → IsKeptBut wave new (Some v) → new.terms ≡ old.terms
+      → new.places ≡ old.places → new.depth ≡ old.depth → ((c : TreeNode) → old.flow c ≤ new.flow c)
       → IsFollowing wave new search v
-  follow_slot v goal kept places depth flows =
+  follow_slot v goal kept terms places depth flows =
       let t = goal_at (Slot v) goal in
       record {
         first = old;
         ready = r;
         kept = kept;
         known = t.known;
+        terms = terms;
         depth = depth;
         from = t.from;
         unshipped = ap (λ places. place_of (record old { places = places }) search.split) places ∙ r.unshipped;
-        flows = λ c some less. flows c (t.shut c some less);
+        flows = λ c some less. flows c;
         places = λ t e stands less. ap (λ places. place_of (record old { places = places }) t) places ∙ stands;
       }
 
@@ -173,10 +183,11 @@ module _ (wave : Wave) (old new : State) (search : Search) (r : IsReady wave old
         ready = r;
         kept = sends_off wave old new t e r.kept stands (omega arith) set;
         known = (r.kept.cheapest.ends t e stands).known;
+        terms = set.terms;
         depth = set.depth;
         from = subst (λ (e : End). IsOnWay search e.node) same o.from;
         unshipped = other_now wave old new t Waits set search.split other ∙ r.unshipped;
-        flows = λ c some less. ap (λ g. g c) set.flow;
+        flows = λ c some less. (let same = ap (λ g. g c) set.flow in omega arith);
         places = λ u d stands_there less. other_now wave old new t Waits set u (λ is.
             (let p = ap (λ s. place_of old s) is in
             let q = o.stands in

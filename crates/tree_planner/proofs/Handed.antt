@@ -43,7 +43,7 @@ module _ (wave : Wave) (now : State) (s : ℕ) (e : End) (c : TreeNode) (flow : 
     each = λ v.
         (let each = b.each v in
         let count = counts wave now (record now { places = slice_set now.places s (Stands below) }) s (Stands below)
-        (record { known = known; places = refl; flow = refl; depth = refl; free = refl }) v in
+        (record { known = known; terms = refl; places = refl; flow = refl; depth = refl; free = refl }) v in
         let was = ap (λ p. one (stands_under wave.tree v p)) stands in
         let from = ap (λ u. one (is_under wave.tree u v)) above in
         elim (same_or_not v c) [
@@ -73,7 +73,7 @@ module _ (wave : Wave) (now : State) (s w : ℕ) (e : End) (free : ℕ → ℕ)
     each = λ v.
         (let each = b.each v in
         let count = counts wave now (record now { places = slice_set now.places s Unshipped }) s Unshipped
-        (record { known = known; places = refl; flow = refl; depth = refl; free = refl }) v in
+        (record { known = known; terms = refl; places = refl; flow = refl; depth = refl; free = refl }) v in
         let was = ap (λ p. one (stands_under wave.tree v p)) stands in
         let from = ap (λ u. one (is_under wave.tree u v)) at in
         let more = sum_less (length wave.workers) w (λ x. is_under wave.tree (Worker x) v) free now.free worker here

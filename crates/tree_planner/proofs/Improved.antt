@@ -4,7 +4,7 @@ use Rattle.std.proofs.Common.{◌/◌, count_by, get_or, get_or-set_same, get_or
 use Rattle.std.specs.Prelude.{◌≢◌, nat_lt}
 use Rattle.std.proofs.lemmas.Bool.{cases_lt, le-ltb, lt-ltb, ltb-true}
 use Rattle.rack_tree.specs.Tree.{Tree}
-use Rattle.tree_flow.specs.declared.nodes.TreeNode.TheVariants.{Cluster}
+use Rattle.tree_flow.specs.declared.nodes.TreeNode.TheVariants.{Cluster, Worker}
 use Rattle.tree_planner.specs.declared.reached.Reached.{Reached}
 use Rattle.tree_planner.specs.Reaching.{HasRoom, IsNoted}
 use Rattle.tree_planner.specs.Searching.{floor_at, has_come, place_at, reached_at, HasReached}
@@ -22,9 +22,10 @@ use Rattle.tree_planner.specs.declared.search.Search.{Search}
 use Rattle.tree_planner.specs.declared.search.Step.{Step}
 use Rattle.tree_planner.specs.declared.search.Step.TheVariants.{Start, Down, Up, Over}
 use Rattle.tree_flow.specs.Nodes.{parent, IsEnd, IsNode}
-use Rattle.tree_flow.specs.State.{reach_cost, sum_under}
+use Rattle.tree_flow.specs.State.{reach_cost}
 use Rattle.tree_planner.specs.Searching.{order_at, far_at, step_at, state_at, wave_of, EndsIn, GoesAllOver}
-use Rattle.tree_planner.specs.Searching.{cover_at, EndsInSlot, HasLookedFrom, IsCovered, IsFound}
+use Rattle.tree_planner.specs.Searching.{cover_at, next_price, EndsInSlot, HasLookedFrom, IsCovered, IsFound}
+use Rattle.tree_planner.specs.Searching.{IsOpenAt, IsRest}
 use Rattle.tree_planner.specs.declared.covers.Cover.{Cover}
 use Rattle.tree_planner.specs.Covers.{no_cover}
 use Rattle.tree_planner.specs.Searching.{HasStarted, IsStartedAt, Improves, IsAt, IsBefore, IsDown, IsLastOne}
@@ -88,7 +89,8 @@ module _ (old new : Search) (i : IsNearer old new)
   ends_kept g bound Wait e = e ∙ sym i.limit
   ends_kept g bound (Slot v) e = record {
     known = e.known;
-    some = e.some;
+    rest = e.rest;
+    slots = e.slots;
     reached = (let less = i.far v in let limit = i.limit in let near = e.reached in omega arith);
     near = (let less = i.far v in let near = e.near in omega arith);
   }
@@ -213,7 +215,7 @@ improves_trans a b c i j = record {
 
 -- a node that was come to nearer
 module _ (old : Search) (far : NodeTable ℕ) (how : NodeTable Step) (node : TreeNode) (distance : ℕ) (step : Step)
-    (bound : distance < old.bound) (near : distance < far_at old node) (short : distance < 2 ^ 54) (b : ℕ)
+    (bound : distance < old.bound) (near : distance < far_at old node) (short : distance < 2 ^ 60) (b : ℕ)
     (end : Goal) (less : b ≤ old.bound)
     (beyond : (u : TreeNode) → 0 < order_at old u → far_at old u ≤ distance)
     (here : (d : ℕ) → at_or far d node ≡ distance)
@@ -238,22 +240,22 @@ module _ (old : Search) (far : NodeTable ℕ) (how : NodeTable Step) (node : Tre
     bound = omega arith;
     far = λ v. elim (same_or_not v node) [
       | inl e ↦
-          (let now = here (2 ^ 54) in
+          (let now = here (2 ^ 60) in
           let a = ap (far_at reached) e in
           let b = ap (far_at old) e in
           omega arith)
-      | inr n ↦ (let same = others (2 ^ 54) v n in omega arith)
+      | inr n ↦ (let same = others (2 ^ 60) v n in omega arith)
     ];
-    settled = λ u some. others (2 ^ 54) u (λ e. (let none = is_open in
+    settled = λ u some. others (2 ^ 60) u (λ e. (let none = is_open in
         let a = ap (order_at old) e in omega arith));
   }
 
   far_there : far_at reached node ≡ distance
-  far_there = here (2 ^ 54)
+  far_there = here (2 ^ 60)
 
   -- the row is as long as before
   row_room : length row.nodes.items ≡ length old.reached.nodes.items
-  row_room = elim (cases_lt (far_at old node) (2 ^ 54)) [
+  row_room = elim (cases_lt (far_at old node) (2 ^ 60)) [
     | inl before ↦ ap (λ (r : Reached). length r.nodes.items) (noted.same before)
     | inr fresh ↦
         ap length (noted.fresh fresh).nodes
@@ -261,9 +263,9 @@ module _ (old : Search) (far : NodeTable ℕ) (how : NodeTable Step) (node : Tre
   ]
 
   -- the row has the node, where it was not come to before
-  row_kept : (tree : Tree) → IsNode tree node → HasReached tree old → old.bound ≤ old.limit → old.limit < 2 ^ 54
+  row_kept : (tree : Tree) → IsNode tree node → HasReached tree old → old.bound ≤ old.limit → old.limit < 2 ^ 60
       → HasRoom old.reached node (far_at old node) → HasReached tree reached
-  row_kept tree known r most short room = elim (cases_lt (far_at old node) (2 ^ 54)) [
+  row_kept tree known r most short room = elim (cases_lt (far_at old node) (2 ^ 60)) [
     | inl before ↦
         (let same = noted.same before in
         let size = noted.blocks in
@@ -283,7 +285,7 @@ module _ (old : Search) (far : NodeTable ℕ) (how : NodeTable Step) (node : Tre
           once = r.once;
           placed = λ v near. elim (same_or_not v node) [
             | inl e ↦ r.placed v (let a = ap (far_at old) e in omega arith)
-            | inr n ↦ r.placed v (let same = others (2 ^ 54) v n in omega arith)
+            | inr n ↦ r.placed v (let same = others (2 ^ 60) v n in omega arith)
           ];
           looked = λ v some. (let less = reach_nearer.far v in let near = r.looked v some in omega arith);
         }))
@@ -335,7 +337,7 @@ module _ (old : Search) (far : NodeTable ℕ) (how : NodeTable Step) (node : Tre
                 (let here = ap (place_at reached) e in
                 (omega arith, ap (reached_at reached) (here ∙ place) ∙ own ∙ sym e))
             | inr n ↦
-                (let at = r.placed v (let same = others (2 ^ 54) v n in omega arith) in
+                (let at = r.placed v (let same = others (2 ^ 60) v n in omega arith) in
                 let same = noted.others v n in (
                   (let l = at.0 in omega arith),
                   ap (reached_at reached) same ∙ other (place_at old v) at.0 ∙ at.1,
@@ -348,28 +350,28 @@ module _ (old : Search) (far : NodeTable ℕ) (how : NodeTable Step) (node : Tre
   -- no more stand in it than nodes that were come to
   row_fit : (g : Ground) → IsGround g → IsNode (wave_of g).tree node
       → old.reached.count ≤ count_by (has_come old) g.nodes.now → row.count ≤ count_by (has_come reached) g.nodes.now
-  row_fit g ground known fit = elim (cases_lt (far_at old node) (2 ^ 54)) [
+  row_fit g ground known fit = elim (cases_lt (far_at old node) (2 ^ 60)) [
     | inl before ↦
         (let same = ap (λ (r : Reached). r.count) (noted.same before) in
-        let grows = count_grows (has_come old) (has_come reached) (λ v come. lt-ltb (far_at reached v) (2 ^ 54)
-        (let less = reach_nearer.far v in let near = ltb-true (far_at old v) (2 ^ 54) come in omega arith))
+        let grows = count_grows (has_come old) (has_come reached) (λ v come. lt-ltb (far_at reached v) (2 ^ 60)
+        (let less = reach_nearer.far v in let near = ltb-true (far_at old v) (2 ^ 60) come in omega arith))
         g.nodes.now in
         omega arith)
     | inr fresh ↦
         (let count = (noted.fresh fresh).count in
         let more = count_less (has_come reached) (has_come old) node
-        (lt-ltb (far_at reached node) (2 ^ 54) (let there = far_there in omega arith))
-        (le-ltb (far_at old node) (2 ^ 54) fresh)
-        (λ v n. ap (λ (d : ℕ). nat_lt d (2 ^ 54)) (sym (others (2 ^ 54) v n))) g.nodes.now
+        (lt-ltb (far_at reached node) (2 ^ 60) (let there = far_there in omega arith))
+        (le-ltb (far_at old node) (2 ^ 60) fresh)
+        (λ v n. ap (λ (d : ℕ). nat_lt d (2 ^ 60)) (sym (others (2 ^ 60) v n))) g.nodes.now
         (ground.nodes.each node known) in
         omega arith)
   ]
 
   -- no node that was not looked from is nearer than the floor of its block
   row_floors : (tree : Tree) → HasReached tree old
-      → ((v : TreeNode) → far_at old v < 2 ^ 54 → order_at old v ≡ 0
+      → ((v : TreeNode) → far_at old v < 2 ^ 60 → order_at old v ≡ 0
       → floor_at old (place_at old v) ≤ far_at old v)
-      → (v : TreeNode) → far_at reached v < 2 ^ 54 → order_at old v ≡ 0
+      → (v : TreeNode) → far_at reached v < 2 ^ 60 → order_at old v ≡ 0
       → floor_at reached (place_at reached v) ≤ far_at reached v
   row_floors tree r floors v come none = elim (same_or_not v node) [
     | inl e ↦
@@ -379,13 +381,27 @@ module _ (old : Search) (far : NodeTable ℕ) (how : NodeTable Step) (node : Tre
         let here = noted.here in
         omega arith)
     | inr n ↦
-        (let same = others (2 ^ 54) v n in
-        let before : far_at old v < 2 ^ 54 = omega arith in
+        (let same = others (2 ^ 60) v n in
+        let before : far_at old v < 2 ^ 60 = omega arith in
         let at = (r.placed v before).0 in
         let floor = floors v before none in
         let is = ap (floor_at reached) (noted.others v n) in
         let lower = noted.lower (place_at old v / 32) (omega arith) in
         omega arith)
+  ]
+
+  -- no worker's own free slot is nearer than the bound
+  bottom_there : (g : Ground) → IsSearching g old → (rest : ℕ) → IsRest g node rest → b ≤ distance + rest
+      → (w : ℕ) → w < length (wave_of g).workers → 0 < (state_at g).free w
+      → b + (state_at g).depth (Worker w) ≤ far_at reached (Worker w) + next_price g w
+  bottom_there g s rest own most w known some = elim (same_or_not (Worker w) node) [
+    | inl e ↦
+        (let now = here (2 ^ 60) in
+        let a = ap (far_at reached) e in
+        let d = ap (state_at g).depth e in
+        let near = own.own w known (sym e) some in
+        omega arith)
+    | inr n ↦ (let same = others (2 ^ 60) (Worker w) n in let past = s.bottom w known some in omega arith)
   ]
 
   pub reach_improves : Improves old reached
@@ -394,8 +410,8 @@ module _ (old : Search) (far : NodeTable ℕ) (how : NodeTable Step) (node : Tre
   pub reach_kept : (g : Ground) → IsGround g → IsNode (wave_of g).tree node → IsOver (wave_of g).tree far
       → IsOver (wave_of g).tree how → IsSearching g old
       → (order_at old node ≡ 0 → LeadsTo g old node distance step) → EndsIn g reached b end
-      → ((v : TreeNode) → 0 < sum_under (wave_of g) v (state_at g).free → b ≤ far_at reached v) → IsSearching g reached
-  reach_kept g ground known over_far over_how s leads ends bottom = record {
+      → (rest : ℕ) → IsRest g node rest → b ≤ distance + rest → IsSearching g reached
+  reach_kept g ground known over_far over_how s leads ends rest own most = record {
     tables = record {
       far = over_far;
       how = over_how;
@@ -414,12 +430,12 @@ module _ (old : Search) (far : NodeTable ℕ) (how : NodeTable Step) (node : Tre
     few = s.few;
     steps = λ v less. elim (same_or_not v node) [
       | inl e ↦ subst (λ v. LeadsTo g reached v (far_at reached v) (step_at reached v)) (sym e)
-          (subst (λ d. LeadsTo g reached node d (step_at reached node)) (sym (here (2 ^ 54)))
+          (subst (λ d. LeadsTo g reached node d (step_at reached node)) (sym (here (2 ^ 60)))
           (subst (λ st. LeadsTo g reached node distance st) (sym (how_here Down))
           (leads_kept old reached reach_nearer (λ u x b. b) (λ u some. some) g node distance step
           (leads is_open))))
       | inr n ↦
-          (let same = others (2 ^ 54) v n in
+          (let same = others (2 ^ 60) v n in
           subst (λ d. LeadsTo g reached v d (step_at reached v)) (sym same)
           (subst (λ st. LeadsTo g reached v (far_at old v) st) (sym (how_others Down v n))
           (leads_kept old reached reach_nearer (λ u x b. b) (λ u some. some) g v (far_at old v)
@@ -429,46 +445,28 @@ module _ (old : Search) (far : NodeTable ℕ) (how : NodeTable Step) (node : Tre
         (let one = reach_nearer.settled u some in
         elim (same_or_not v node) [
           | inl e ↦
-              (let now = here (2 ^ 54) in
+              (let now = here (2 ^ 60) in
               let a = ap (far_at reached) e in
               let past = beyond u some in
               omega arith)
-          | inr n ↦ (let same = others (2 ^ 54) v n in let level = s.level u v some none in omega arith)
+          | inr n ↦ (let same = others (2 ^ 60) v n in let level = s.level u v some none in omega arith)
         ]);
     goal = ends;
-    bottom = bottom;
-    shut = s.shut;
+    bottom = bottom_there g s rest own most;
     covered = λ u. cover_kept old reached reach_nearer g (cover_at old u) u (s.covered u);
     low = s.low;
   }
 
-  far_other : (v : TreeNode) → v ≢ node → far_at reached v ≡ far_at old v
-  far_other v n = others (2 ^ 54) v n
-
-  -- a slot is free under it, and a way ends there, or none is
+  -- a way ends in a free slot that is so much farther
   pub ends_there : (g : Ground) → IsSearching g old → IsNode (wave_of g).tree node
-      → 0 < sum_under (wave_of g) node (state_at g).free → b ≡ distance → EndsInSlot g reached b node
-  ends_there g s known some is = record {
+      → (rest : ℕ) → IsOpenAt g node rest → b ≡ distance + rest → EndsInSlot g reached b node
+  ends_there g s known rest slots is = record {
     known = known;
-    some = some;
-    reached = (let now = here (2 ^ 54) in let most = s.bound in omega arith);
-    near = (let now = here (2 ^ 54) in omega arith);
+    reached = (let now = here (2 ^ 60) in let most = s.bound in omega arith);
+    rest = rest;
+    slots = slots;
+    near = (let now = here (2 ^ 60) in omega arith);
   }
-
-  pub bottom_there : (g : Ground) → IsSearching g old → b ≡ distance
-      → (v : TreeNode) → 0 < sum_under (wave_of g) v (state_at g).free → b ≤ far_at reached v
-  bottom_there g s is v some = elim (same_or_not v node) [
-    | inl e ↦ (let now = here (2 ^ 54) in let a = ap (far_at reached) e in omega arith)
-    | inr n ↦ (let same = far_other v n in let past = s.bottom v some in omega arith)
-  ]
-
-  pub bottom_shut : (g : Ground) → IsSearching g old → b ≡ old.bound
-      → (0 < sum_under (wave_of g) node (state_at g).free → ⊥)
-      → (v : TreeNode) → 0 < sum_under (wave_of g) v (state_at g).free → b ≤ far_at reached v
-  bottom_shut g s is none v some = elim (same_or_not v node) [
-    | inl e ↦ absurd (none (subst (λ v. 0 < sum_under (wave_of g) v (state_at g).free) e some))
-    | inr n ↦ (let same = far_other v n in let past = s.bottom v some in omega arith)
-  ]
 
   pub ends_same : (g : Ground) → IsSearching g old → b ≡ old.bound → end ≡ old.goal → EndsIn g reached b end
   ends_same g s is goal = subst (λ (n : ℕ). EndsIn g reached n end) (sym is)
@@ -521,8 +519,7 @@ module _ (old : Search) (goal : Goal) (distance : ℕ) (bound : distance < old.b
         (step_at old v) (s.steps v less);
     level = s.level;
     goal = ends_kept old arrived arrive_nearer (λ u x b. b) (λ u some. some) g distance goal ends;
-    bottom = λ v some. (let past = s.bottom v some in omega arith);
-    shut = s.shut;
+    bottom = λ w known some. (let past = s.bottom w known some in omega arith);
     covered = λ u. cover_kept old arrived arrive_nearer g (cover_at old u) u (s.covered u);
     low = s.low;
   }
@@ -618,14 +615,6 @@ module _ (g : Ground) (old : Search) (order : NodeTable ℕ) (c : TreeNode) (s :
         (let one = settled-le u some in let two = nearest.least v (was_open v none) in omega arith);
     goal = ends_kept old settled settle_nearer before_next some_next g old.bound old.goal s.goal;
     bottom = s.bottom;
-    shut = λ v some. elim (same_or_not v c) [
-      | inl e ↦ subst (λ v. sum_under (wave_of g) v (state_at g).free ≡ 0) (sym e)
-          (elim (cases_lt 0 (sum_under (wave_of g) c (state_at g).free)) [
-            | inl more ↦ absurd (let past = s.bottom c more in let near = nearest.near in omega arith)
-            | inr none ↦ omega arith
-          ])
-      | inr n ↦ s.shut v (let same = others v n in omega arith)
-    ];
     covered = λ u. cover_kept old settled settle_nearer g (cover_at old u) u (s.covered u);
     low = s.low;
   }
@@ -640,13 +629,7 @@ module _ (g : Ground) (old : Search) (order : NodeTable ℕ) (c : TreeNode) (s :
     bound = s.bound;
     steps = settle_steps;
     goal = ends_kept old settled settle_nearer before_next some_next g old.bound old.goal s.goal;
-    last = subst (λ goal. IsLastOne g settled goal) (sym goal) (
-      (let now = here in omega arith),
-      λ x some less. elim (same_or_not x c) [
-        | inl e ↦ absurd (let a = ap (order_at settled) e in omega arith)
-        | inr n ↦ s.shut x (let same = others x n in omega arith)
-      ],
-    );
+    last = subst (λ goal. IsLastOne settled goal) (sym goal) (let now = here in omega arith);
   }
 
   pub settle_at : IsNearest g old c → IsAt settled c
@@ -724,7 +707,6 @@ module _ (old : Search) (covers : NodeTable Cover) (node : TreeNode) (cover : Co
     level = s.level;
     goal = ends_kept old covering covered_nearer (λ u x b. b) (λ u some. some) g old.bound old.goal s.goal;
     bottom = s.bottom;
-    shut = s.shut;
     covered = λ u. elim (same_or_not u node) [
       | inl e ↦ subst (λ u. IsCovered g covering (cover_at covering u) u) (sym e)
           (subst (λ cover. IsCovered g covering cover node) (sym here)

@@ -40,3 +40,5 @@ pub mod Flagged
 pub mod Floors
 pub mod Paired
 pub mod Lowered
+pub mod Rested
+pub mod Still

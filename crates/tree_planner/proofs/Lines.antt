@@ -203,10 +203,12 @@ pub added_standing : (wave : Wave) (t : Tables) (w : ℕ) → w < length wave.wo
     → at_node t.depth (parent wave.tree u) ≤ at_node t.depth u)
     → IsStandingBut (slot_more wave w) t (Some (Worker w))
 added_standing wave t w known live s above = record {
+  plain = s.plain;
+  worth = s.worth;
   tables = tables_with wave (set_line wave w ((worker_at wave w).free + 1) known) t
       (set_size wave w ((worker_at wave w).free + 1) known) s.tables;
   low = s.low;
-  kept = adds_slot wave (set_line wave w ((worker_at wave w).free + 1) known) (state_of t) w s.kept
+  kept = adds_slot wave (set_line wave w ((worker_at wave w).free + 1) known) (state_of t) w s.plain s.kept
       (set_more wave w ((worker_at wave w).free + 1) known live refl) above;
 }
 

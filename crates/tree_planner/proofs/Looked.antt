@@ -18,10 +18,9 @@ use Rattle.tree_flow.specs.State.{State, place_of, sum_under}
 use Rattle.tree_flow.proofs.Certified.{which_above}
 use Rattle.tree_flow.proofs.Children.{some_of_sum}
 use Rattle.tree_flow.proofs.Ends.{node_known}
-use Rattle.tree_flow.proofs.Under.{under_worker}
 use Rattle.tree_planner.specs.Searching.{order_at, far_at, state_at, wave_of, GoesAllOver, HasLookedFrom, Improves, IsAt}
 use Rattle.tree_planner.specs.declared.search.Goal.TheVariants.{Slot}
-use Rattle.tree_planner.specs.Searching.{EndsIn, EndsInSlot, HasStarted, IsSearched}
+use Rattle.tree_planner.specs.Searching.{EndsIn, HasStarted, IsSearched}
 use Rattle.tree_planner.specs.Reaching.{floor_in}
 use Rattle.tree_planner.specs.Searching.{place_at, IsDown, IsGround, IsNearest, IsSearching, Settles}
 use Rattle.tree_flow.specs.Table.{at_or, IsOver}
@@ -56,7 +55,7 @@ pub least_of_all : (g : Ground) (search : Search) (far : ℕ) → IsGround g →
     → far ≤ search.bound
     → ((block : ℕ) → block * 32 < search.reached.count → far ≤ floor_in search.reached block)
     → (v : TreeNode) → order_at search v ≡ 0 → far ≤ far_at search v
-least_of_all g search far ground s most low v none = elim (cases_lt (far_at search v) (2 ^ 54)) [
+least_of_all g search far ground s most low v none = elim (cases_lt (far_at search v) (2 ^ 60)) [
   | inl near ↦
       (let at = (s.reached.placed v near).0 in
       let floor = s.floors v near none in
@@ -107,8 +106,11 @@ looked_all g c one two three some i j s down up over =
           (let out = (over t).out e stands is in
           let same = ap (λ v. far_at three v) is in
           omega arith);
-      bottom = λ w known is free. s.bottom c (subst (λ v. 0 < sum_under (wave_of g) v (state_at g).free) (sym is)
-          (let own = under_worker (wave_of g) (state_at g).free w known in omega arith));
+      bottom = λ w known is free.
+          (let past = s.bottom w known free in
+          let far = ap (far_at three) is in
+          let depth = ap (state_at g).depth is in
+          omega arith);
     }
 
 -- units can go only to a node that the tree has
@@ -124,24 +126,16 @@ pub stands_same : (state : State) (t : ℕ) (e f : End) → place_of state t ≡
     → e ≡ f
 stands_same state t e f one other = grind arith
 
--- where a way ends in a free slot, its node was not looked from yet
-open_goal : (g : Ground) (search : Search) (v : TreeNode) → IsSearching g search → EndsInSlot g search search.bound v
-    → order_at search v ≡ 0
-open_goal g search v s ends = elim (cases_lt 0 (order_at search v)) [
-  | inl some ↦ absurd (let none = s.shut v some in let more = ends.some in omega arith)
-  | inr none ↦ omega arith
-]
-
 -- the search has ended, and its goal is put last in order
 pub found_goal : (g : Ground) (old new : Search) (v : TreeNode) → IsSearching g old → HasStarted g old
     → ((u : TreeNode) → far_at old u < old.bound → HasLookedFrom g old u) → old.goal ≡ Slot v
-    → new ≡ record old { order = new.order; looked = old.looked + 1 } → IsOver (wave_of g).tree new.order
+    → order_at old v ≡ 0 → new ≡ record old { order = new.order; looked = old.looked + 1 } → IsOver (wave_of g).tree new.order
     → order_at new v ≡ old.looked + 1 → ((u : TreeNode) → u ≢ v → order_at new u ≡ order_at old u)
     → IsSearched g new
-found_goal g old new v s started looked goal rest over here others =
+found_goal g old new v s started looked goal fresh rest over here others =
     let ends = subst (λ goal. EndsIn g old old.bound goal) goal s.goal in
     subst (λ m. IsSearched g m) (sym rest) (record {
-      searching = settle_found g old new.order v s (open_goal g old v s ends) over here others goal ends.reached;
+      searching = settle_found g old new.order v s fresh over here others goal ends.reached;
       started = started;
       looked = looked;
     })

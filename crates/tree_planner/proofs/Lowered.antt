@@ -84,7 +84,6 @@ module _ (old : Search) (lows : Lows) (split : ℕ) (low : Low)
     level = s.level;
     goal = ends_kept old noting noted_nearer (λ u x b. b) (λ u some. some) g old.bound old.goal s.goal;
     bottom = s.bottom;
-    shut = s.shut;
     covered = λ u. cover_kept old noting noted_nearer g (cover_at old u) u (s.covered u);
     low = λ t. elim (put t) [
       | inl same ↦ subst (λ low. IsLow (wave_of g) (state_at g) t low) (sym same) (s.low t)

@@ -5,7 +5,7 @@ use Rattle.std.specs.Prelude.{slice_index, slice_set, unwrap_or, IfSome}
 use Rattle.std.proofs.lemmas.Bool.{cases_eq, cases_lt}
 use Rattle.std.proofs.lemmas.List.{append-nil, get_or_past, length-set}
 use Rattle.wave_problem.specs.Assignment.{pairs_from, pairs_of, start_of}
-use Rattle.wave_problem.specs.Wave.{cost, reward, Wave}
+use Rattle.wave_problem.specs.Wave.{cost, Wave}
 use Rattle.wave_problem.proofs.Pairs.{pairs_started}
 use Rattle.tree_planner.specs.Priced.{IsSplitPrice}
 
@@ -62,17 +62,18 @@ has_pair starts s w e =
     (h.0, h.1, h.2 ∙ ap (λ (z : ℕ). let r : ℕ × ℕ = (z, w) in r) is)
 
 -- the price of a split that starts on this worker
-abbrev pub price_on : Wave → List ℕ → ℕ → ℕ → ℕ
-price_on wave workers s w = reward wave - (slice_index workers w + unwrap_or (cost wave s w) 0)
+abbrev pub price_on : Wave → ℕ → List ℕ → ℕ → ℕ → ℕ
+price_on wave worth workers s w = worth - (slice_index workers w + unwrap_or (cost wave s w) 0)
 
 -- the first k pairs have put the prices of their splits, and the other splits have none
-pub record ArePriced (wave : Wave) (workers : List ℕ) (pairs : List (ℕ × ℕ)) (k : ℕ) (prices : List ℕ) : Type 0 where
+pub record ArePriced (wave : Wave) (worth : ℕ) (workers : List ℕ) (pairs : List (ℕ × ℕ)) (k : ℕ)
+    (prices : List ℕ) : Type 0 where
   pub size : length prices ≡ length wave.splits
   pub done : (j : ℕ) → j < k → slice_index prices (get_or pairs j no_pair).0
-      ≡ price_on wave workers (get_or pairs j no_pair).0 (get_or pairs j no_pair).1
+      ≡ price_on wave worth workers (get_or pairs j no_pair).0 (get_or pairs j no_pair).1
   pub left : (s : ℕ) → (slice_index prices s ≡ 0) ⊎ ((j : ℕ) × (j < k) × ((get_or pairs j no_pair).0 ≡ s))
 
-module _ (wave : Wave) (workers : List ℕ) (starts : List (Option ℕ)) where
+module _ (wave : Wave) (worth : ℕ) (workers : List ℕ) (starts : List (Option ℕ)) where
   starts_there : (j : ℕ) → j < length (pairs_of starts)
       → start_of starts (get_or (pairs_of starts) j no_pair).0 ≡ Some (get_or (pairs_of starts) j no_pair).1
   starts_there j l = pairs_started starts j no_pair l
@@ -80,7 +81,7 @@ module _ (wave : Wave) (workers : List ℕ) (starts : List (Option ℕ)) where
   -- one pair more
   module _ (k : ℕ) (prices : List ℕ) (within : k < length (pairs_of starts))
       (known : (get_or (pairs_of starts) k no_pair).0 < length wave.splits)
-      (p : ArePriced wave workers (pairs_of starts) k prices) where
+      (p : ArePriced wave worth workers (pairs_of starts) k prices) where
     abbrev s_at : ℕ → ℕ
     s_at j = (get_or (pairs_of starts) j no_pair).0
 
@@ -88,7 +89,7 @@ module _ (wave : Wave) (workers : List ℕ) (starts : List (Option ℕ)) where
     w_at j = (get_or (pairs_of starts) j no_pair).1
 
     abbrev price : ℕ
-    price = price_on wave workers (s_at k) (w_at k)
+    price = price_on wave worth workers (s_at k) (w_at k)
 
     same_worker : (j : ℕ) → j < length (pairs_of starts) → s_at j ≡ s_at k → w_at j ≡ w_at k
     same_worker j l e =
@@ -98,12 +99,12 @@ module _ (wave : Wave) (workers : List ℕ) (starts : List (Option ℕ)) where
         ap (λ (o : Option ℕ). unwrap_or o 0) both
 
     done_next : (j : ℕ) → j < k + 1
-        → slice_index (slice_set prices (s_at k) price) (s_at j) ≡ price_on wave workers (s_at j) (w_at j)
+        → slice_index (slice_set prices (s_at k) price) (s_at j) ≡ price_on wave worth workers (s_at j) (w_at j)
     done_next j l = elim (cases_eq (s_at j) (s_at k)) [
       | inl e ↦ ap (slice_index (slice_set prices (s_at k) price)) e
           ∙ get_or-set_same prices (s_at k) price 0 (let size = p.size in omega arith)
-          ∙ ap (λ s. price_on wave workers s (w_at k)) (sym e)
-          ∙ ap (price_on wave workers (s_at j)) (sym (same_worker j (omega arith) e))
+          ∙ ap (λ s. price_on wave worth workers s (w_at k)) (sym e)
+          ∙ ap (price_on wave worth workers (s_at j)) (sym (same_worker j (omega arith) e))
       | inr n ↦ get_or-set_other prices (s_at k) (s_at j) price 0 n ∙ p.done j
           (elim (cases_eq j k) [
             | inl e ↦ absurd (n (ap s_at e))
@@ -111,7 +112,7 @@ module _ (wave : Wave) (workers : List ℕ) (starts : List (Option ℕ)) where
           ])
     ]
 
-    pub priced_next : ArePriced wave workers (pairs_of starts) (k + 1) (slice_set prices (s_at k) price)
+    pub priced_next : ArePriced wave worth workers (pairs_of starts) (k + 1) (slice_set prices (s_at k) price)
     priced_next = record {
       size = length-set prices (s_at k) price ∙ p.size;
       done = done_next;
@@ -124,15 +125,15 @@ module _ (wave : Wave) (workers : List ℕ) (starts : List (Option ℕ)) where
       ];
     }
 
-  pub all_priced : (prices : List ℕ) → ArePriced wave workers (pairs_of starts) (length (pairs_of starts)) prices
-      → (s : ℕ) → IsSplitPrice wave starts workers s (slice_index prices s)
+  pub all_priced : (prices : List ℕ) → ArePriced wave worth workers (pairs_of starts) (length (pairs_of starts)) prices
+      → (s : ℕ) → IsSplitPrice wave worth starts workers s (slice_index prices s)
   all_priced prices p s = record {
     started = λ w is.
         (let h = has_pair starts s w is in
         let one : (get_or (pairs_of starts) h.0 no_pair).0 ≡ s = ap (λ (x : ℕ × ℕ). x.0) h.2 in
         let two : (get_or (pairs_of starts) h.0 no_pair).1 ≡ w = ap (λ (x : ℕ × ℕ). x.1) h.2 in
-        ap (slice_index prices) (sym one) ∙ p.done h.0 h.1 ∙ ap (λ s. price_on wave workers s
-        (get_or (pairs_of starts) h.0 no_pair).1) one ∙ ap (price_on wave workers s) two);
+        ap (slice_index prices) (sym one) ∙ p.done h.0 h.1 ∙ ap (λ s. price_on wave worth workers s
+        (get_or (pairs_of starts) h.0 no_pair).1) one ∙ ap (price_on wave worth workers s) two);
     unstarted = λ is. elim (p.left s) [
       | inl none ↦ none
       | inr h ↦ absurd

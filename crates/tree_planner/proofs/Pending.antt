@@ -79,7 +79,6 @@ module _ (wave : Wave) (s : ℕ) (pending : Bool) (known : s < length wave.split
     size = length-set wave.splits s line;
     workers = refl;
     slots = λ w. refl;
-    same_reward = same_reward;
     others = λ t shipped.
         (let other : t ≢ s = λ e. shipped (ap (λ (t : ℕ). place_of state t) e ∙ unshipped) in (
           λ e. ap (λ (x : Split). x.bytes * (2 * e.level)) (split_other t other),
@@ -90,6 +89,8 @@ module _ (wave : Wave) (s : ℕ) (pending : Bool) (known : s < length wave.split
   pub pending_standing : (t : Tables) → place_of (state_of t) s ≡ Unshipped → IsStanding wave t
       → IsStanding new t
   pending_standing t unshipped standing = record {
+    plain = standing.plain;
+    worth = standing.worth ∙ sym same_reward;
     tables = record {
       places = (let size = length-set wave.splits s line in standing.tables.places ∙ sym size);
       flow = standing.tables.flow;

@@ -1,7 +1,7 @@
 -- A hole goes along a way that costs nothing, and is filled at its end.
-use Rattle.std.proofs.Common.{◌≡◌, ℕ, ◌+◌, ◌-◌, ◌≤◌, Some, refl, sym, ap, ◌∙◌, subst, inl, inr, arith}
+use Rattle.std.proofs.Common.{◌≡◌, ℕ, ◌+◌, ◌-◌, None, Option, Some, refl, sym, ap, ◌∙◌, subst, inl, inr, arith}
 use Rattle.std.proofs.lemmas.Bool.{cases_eq}
-use Rattle.wave_problem.specs.Wave.{reward, Wave}
+use Rattle.wave_problem.specs.Wave.{Wave}
 use Rattle.tree_flow.specs.declared.nodes.End.{End}
 use Rattle.tree_flow.specs.declared.nodes.Place.{Place}
 use Rattle.tree_flow.specs.declared.nodes.Place.TheVariants.{Stands, Unshipped}
@@ -14,7 +14,7 @@ use Rattle.tree_planner.specs.declared.back.StepBack.{StepBack}
 use Rattle.tree_planner.specs.declared.back.StepBack.TheVariants.{Start, Rise, Sink, Over}
 use Rattle.tree_flow.specs.Moves.{IsFlowSet, IsPlaced, IsTaken}
 use Rattle.tree_flow.specs.Nodes.{parent}
-use Rattle.tree_flow.specs.State.{State, place_of, reach_cost, IsKept, IsKeptBut}
+use Rattle.tree_flow.specs.State.{State, Terms, place_of, reach_cost, IsKept, IsKeptBut}
 use Rattle.tree_planner.specs.SearchingBack.{order_at, step_at}
 use Rattle.tree_planner.specs.WayBack.{AreAllSame, HasMoved, IsOnWay, IsReady, IsTight, IsTightRest}
 use Rattle.tree_flow.specs.Table.{at_node}
@@ -22,6 +22,7 @@ use Rattle.tree_planner.specs.declared.tables.Tables.{Tables}
 use Rattle.tree_planner.specs.Engine.{IsStanding, IsStandingBut}
 use Rattle.tree_planner.specs.View.{state_of, AreTables}
 use Rattle.tree_flow.proofs.Given.{gives_slot, joins}
+use Rattle.tree_planner.proofs.Standing.{stands_as_deep}
 use Rattle.tree_flow.proofs.Moved.{pushes_down, pushes_up, hands_over, here_now, other_now}
 
 pub all_same_trans : (a b c : State) → AreAllSame a b → AreAllSame b c → AreAllSame a c
@@ -54,6 +55,7 @@ module _ (wave : Wave) (first now new : State) (search : SearchBack) (x : TreeNo
   pub moved_start : step_at search x ≡ Start → HasMoved wave first first search x
   moved_start step = record {
     kept = subst (λ v. IsKeptBut wave first (Some v)) (sym (tight_to Start step)) r.kept;
+    terms = refl;
     depth = refl;
     free = refl;
     unshipped = all_same_places first first refl;
@@ -74,6 +76,7 @@ module _ (wave : Wave) (first now new : State) (search : SearchBack) (x : TreeNo
       record {
         kept = subst (λ v. IsKeptBut wave new (Some v)) t.above
             (pushes_down wave now new c m.kept t.hangs (omega arith) set);
+        terms = set.terms ∙ m.terms;
         depth = set.depth ∙ m.depth;
         free = set.free ∙ m.free;
         unshipped = all_same_trans first now new m.unshipped (all_same_places now new set.places);
@@ -96,6 +99,7 @@ module _ (wave : Wave) (first now new : State) (search : SearchBack) (x : TreeNo
       let same = m.flows x before in
       record {
         kept = pushes_up wave now new x m.kept t.hangs (omega arith) (omega arith) set;
+        terms = set.terms ∙ m.terms;
         depth = set.depth ∙ m.depth;
         free = set.free ∙ m.free;
         unshipped = all_same_trans first now new m.unshipped (all_same_places now new set.places);
@@ -129,6 +133,7 @@ module _ (wave : Wave) (first now new : State) (search : SearchBack) (x : TreeNo
       record {
         kept = subst (λ v. IsKeptBut wave new (Some v)) o.at
             (hands_over wave now new t o.end to m.kept stands o.is_end (omega arith) set);
+        terms = set.terms ∙ m.terms;
         depth = set.depth ∙ m.depth;
         free = set.free ∙ m.free;
         unshipped = all_same_trans first now new m.unshipped
@@ -154,6 +159,7 @@ module _ (wave : Wave) (first now new : State) (search : SearchBack) (r : IsRead
   joined t to goal m set =
       let g = rest_at (Join t to) goal in
       let a = ap (λ depth. reach_cost wave (record now { depth = depth }) t to) m.depth in
+      let worth = ap (λ (t : Terms). t.worth) m.terms in
       let tight = g.tight in
       let waits = m.waits t g.waits in (
         joins wave now new t to m.kept waits g.is_end (omega arith) set,
@@ -162,27 +168,21 @@ module _ (wave : Wave) (first now new : State) (search : SearchBack) (r : IsRead
       )
 
 -- tables in which the hole has moved
-pub moved_standing : (wave : Wave) (first now : Tables) (search : SearchBack) (node : TreeNode)
-    → ((v : TreeNode) → at_node first.depth v ≤ reward wave) → AreTables wave now → now.depth ≡ first.depth
+pub moved_standing : (wave : Wave) (first now : Tables) (search : SearchBack) (hole : Option TreeNode) (node : TreeNode)
+    → IsStandingBut wave first hole → AreTables wave now
     → HasMoved wave (state_of first) (state_of now) search node → IsStandingBut wave now (Some node)
-moved_standing wave first now search node low tables depth m = record {
-  tables = tables;
-  low = λ v. (let same = ap (λ d. at_node d v) depth in let low = low v in omega arith);
-  kept = m.kept;
-}
+moved_standing wave first now search hole node s tables m =
+    stands_as_deep wave first now hole (Some node) s m.terms m.depth tables m.kept
 
 -- or in which a slot has become free under the end of the way
 pub freed : (wave : Wave) (first moved sunk new : Tables) (search : SearchBack) (node : TreeNode) (w : ℕ)
     → IsReady wave (state_of first) search → search.goal ≡ Free node → moved.depth ≡ first.depth
     → IsStandingBut wave sunk (Some (Worker w)) → at_node sunk.depth (Worker w) ≡ at_node moved.depth node
-    → AreTables wave new → new.depth ≡ sunk.depth → IsTaken wave (state_of new) (state_of sunk) w
+    → AreTables wave new → IsTaken wave (state_of new) (state_of sunk) w
     → IsStanding wave new
-freed wave first moved sunk new search node w r goal depth s bottom tables same taken =
+freed wave first moved sunk new search node w r goal depth s bottom tables taken =
     let g = rest_at wave (state_of first) (state_of first) (state_of first) search r (Free node) goal in
     let flat = g.bottom in
     let at = ap (λ d. at_node d node) depth in
-    record {
-      tables = tables;
-      low = λ v. (let is = ap (λ d. at_node d v) same in let low = s.low v in omega arith);
-      kept = gives_slot wave (state_of sunk) (state_of new) w s.kept (omega arith) taken;
-    }
+    stands_as_deep wave sunk new (Some (Worker w)) None s (sym taken.terms) (sym taken.depth) tables
+    (gives_slot wave (state_of sunk) (state_of new) w s.kept (omega arith) taken)

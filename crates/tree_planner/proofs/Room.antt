@@ -15,7 +15,7 @@ pub room_left : (g : Ground) (search : Search) → IsGround g → IsSearching g 
 room_left g search ground s v known = record {
   node = has_node (wave_of g).tree search.reached.places v s.tables.places known;
   fresh = λ past.
-      (let missed = count_missed (has_come search) v (le-ltb (far_at search v) (2 ^ 54) past) g.nodes.now
+      (let missed = count_missed (has_come search) v (le-ltb (far_at search v) (2 ^ 60) past) g.nodes.now
       (ground.nodes.each v known) in
       let fit = s.fit in
       let room = s.room in

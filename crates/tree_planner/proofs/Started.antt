@@ -12,7 +12,7 @@ use Rattle.tree_flow.specs.declared.nodes.TreeNode.TheVariants.{Worker}
 use Rattle.tree_flow.specs.Moves.{IsPlaced, IsTaken}
 use Rattle.tree_flow.specs.Nodes.{is_under, IsEnd}
 use Rattle.tree_flow.specs.Slots.{HasSlotMore}
-use Rattle.tree_flow.specs.State.{place_of, stands_under}
+use Rattle.tree_flow.specs.State.{place_of, stands_under, taken, AreFair}
 use Rattle.tree_flow.specs.Table.{at_node, IsSized}
 use Rattle.tree_flow.proofs.Given.{removes_slot, takes_off}
 use Rattle.tree_flow.proofs.Moved.{lets_wait, one, placed_balance, placed_cheapest, placed_level}
@@ -25,6 +25,7 @@ use Rattle.tree_planner.specs.Events.{slot_less}
 use Rattle.tree_planner.specs.View.{state_of, AreTables}
 use Rattle.tree_planner.specs.Listing.{AreLists}
 use Rattle.tree_planner.proofs.Added.{over_sized}
+use Rattle.tree_planner.proofs.Standing.{stands_as_deep}
 use Rattle.tree_planner.proofs.Placed.{none_more, placed_tables}
 use Rattle.tree_planner.proofs.Lines.{fixed_with, more_under, set_ends, set_less, set_line, set_size}
 use Rattle.tree_planner.proofs.Lines.{tables_with}
@@ -34,22 +35,17 @@ pub off_standing : (wave : Wave) (old new : Tables) (s : ℕ) (e : End) → IsSt
     → place_of (state_of old) s ≡ Stands e → AreTables wave new
     → IsPlaced (state_of old) (state_of new) s Unshipped
     → IsStandingBut wave new (Some e.node)
-off_standing wave old new s e standing stands tables set = record {
-  tables = tables;
-  low = λ v. (let same = ap (λ d. d v) set.depth in let low = standing.low v in omega arith);
-  kept = takes_off wave (state_of old) (state_of new) s e standing.kept stands set;
-}
+off_standing wave old new s e standing stands tables set =
+    stands_as_deep wave old new None (Some e.node) standing set.terms set.depth tables
+    (takes_off wave (state_of old) (state_of new) s e standing.kept stands set)
 
 -- one without ends may wait
 pub waiting_standing : (wave : Wave) (old new : Tables) (s : ℕ) → IsStanding wave old
     → place_of (state_of old) s ≡ Unshipped → ((e : End) → IsEnd wave s e → ⊥) → AreTables wave new
     → IsPlaced (state_of old) (state_of new) s Waits → IsStanding wave new
-waiting_standing wave old new s standing unshipped none tables set = record {
-  tables = tables;
-  low = λ v. (let same = ap (λ d. d v) set.depth in let low = standing.low v in omega arith);
-  kept = lets_wait wave (state_of old) (state_of new) s standing.kept unshipped (λ e is. absurd
-      (none e is)) set;
-}
+waiting_standing wave old new s standing unshipped none tables set =
+    stands_as_deep wave old new None None standing set.terms set.depth tables
+    (lets_wait wave (state_of old) (state_of new) s standing.kept unshipped (λ e is. absurd (none e is)) set)
 
 module _ (wave : Wave) (t : Tables) (w : ℕ) (known : w < length wave.workers)
     (s : IsStandingBut wave t (Some (Worker w))) where
@@ -68,9 +64,11 @@ module _ (wave : Wave) (t : Tables) (w : ℕ) (known : w < length wave.workers)
 
   pub removed_standing : IsStanding (slot_less wave w) t
   removed_standing = record {
+    plain = s.plain;
+    worth = s.worth;
     tables = tables_with wave (set_line wave w free known) t (set_size wave w free known) s.tables;
     low = s.low;
-    kept = removes_slot (slot_less wave w) wave.workers (state_of t) w s.kept less;
+    kept = removes_slot (slot_less wave w) wave.workers (state_of t) w s.plain s.kept less;
   }
 
   pub removed_fixed : (fixed : Fixed) (slots : NodeTable ℕ) → IsFixed wave fixed → IsSized fixed.slots slots
@@ -102,21 +100,19 @@ tables_placed wave old new s place known rest set off a =
 pub laid_off : (wave : Wave) (old new : Tables) (s : ℕ) → IsStanding wave old
     → ((e : End) → place_of (state_of old) s ≢ Stands e) → AreTables wave new
     → IsPlaced (state_of old) (state_of new) s Unshipped → IsStanding wave new
-laid_off wave old new s standing idle tables set = record {
-  tables = tables;
-  low = λ v. (let same = ap (λ d. d v) set.depth in let low = standing.low v in omega arith);
-  kept = record {
-    cheapest = placed_cheapest wave (state_of old) (state_of new) s Unshipped set standing.kept.cheapest
-        (record {
-          own_end = λ y same. cc;
-          own_wait = λ same. cc;
-        });
-    level = placed_level wave (state_of old) (state_of new) s Unshipped set standing.kept.level;
-    balanced = placed_balance wave (state_of old) (state_of new) s Unshipped set None None
-        standing.kept.balanced
-        (λ v. no_place wave v (place_of (state_of old) s) idle);
-  };
-}
+laid_off wave old new s standing idle tables set =
+    stands_as_deep wave old new None None standing set.terms set.depth tables (record {
+      cheapest = placed_cheapest wave (state_of old) (state_of new) s Unshipped set standing.kept.cheapest
+          (record {
+            own_end = λ y same. cc;
+            own_wait = λ same. cc;
+          });
+      level = placed_level wave (state_of old) (state_of new) s Unshipped set standing.kept.level;
+      balanced = placed_balance wave (state_of old) (state_of new) s Unshipped set None None
+          standing.kept.balanced
+          (λ v. no_place wave v (place_of (state_of old) s) idle);
+      fair = subst (λ terms. AreFair wave terms) (sym set.terms) standing.kept.fair;
+    })
   where
     no_place : (wave : Wave) (v : TreeNode) (p : Place) → ((e : End) → p ≢ Stands e)
         → one (stands_under wave.tree v p) + 0 ≡ 0 + 0
@@ -127,8 +123,7 @@ laid_off wave old new s standing idle tables set = record {
 -- a free slot that is taken leaves a hole
 pub taken_standing : (wave : Wave) (old new : Tables) (w : ℕ) → IsStanding wave old → AreTables wave new
     → IsTaken wave (state_of old) (state_of new) w → IsStandingBut wave new (Some (Worker w))
-taken_standing wave old new w standing tables taken = record {
-  tables = tables;
-  low = λ v. (let same = ap (λ d. d v) taken.depth in let low = standing.low v in omega arith);
-  kept = takes_slot wave (state_of old) (state_of new) w standing.kept taken;
-}
+taken_standing wave old new w standing tables set =
+    stands_as_deep wave old new None (Some (Worker w)) standing set.terms set.depth tables
+    (takes_slot wave (state_of old) (state_of new) w standing.kept set
+    (let free = standing.plain w (taken wave (state_of old) w) in omega arith))

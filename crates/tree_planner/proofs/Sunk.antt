@@ -14,6 +14,7 @@ use Rattle.tree_flow.proofs.Given.{deepens}
 use Rattle.tree_flow.proofs.Moved.{parent_not_under, pushes_up, same_or_not, under_own}
 use Rattle.tree_planner.specs.declared.tables.Tables.{Tables}
 use Rattle.tree_planner.specs.Engine.{IsStandingBut}
+use Rattle.tree_planner.proofs.Standing.{stands_as_deep, stands_so}
 use Rattle.tree_planner.specs.View.{state_of, AreTables}
 use Rattle.tree_planner.specs.WayBack.{IsDepthSet}
 
@@ -28,25 +29,24 @@ pub deepened_standing : (wave : Wave) (old new : Tables) (node : TreeNode) (hole
     → at_node old.depth node ≤ at_node old.depth (parent wave.tree node)
     → IsDepthSet (state_of old) (state_of new) node (at_node old.depth (parent wave.tree node))
     → IsStandingBut wave new hole
-deepened_standing wave old new node hole s tables full less set = record {
-  tables = tables;
-  low = λ v. elim (same_or_not v node) [
-    | inl e ↦
-        (let now = set.here in
-        let same = ap (λ v. at_node new.depth v) e in
-        let low = s.low (parent wave.tree node) in
-        omega arith)
-    | inr n ↦ (let same = set.others v n in let low = s.low v in omega arith)
-  ];
-  kept = deepens wave (state_of old) (state_of new) node hole s.kept (record {
-    full = full;
-    places = set.places;
-    flow = set.flow;
-    free = set.free;
-    here = (let now = set.here in omega arith);
-    others = set.others;
-  });
-}
+deepened_standing wave old new node hole s tables full less set = stands_so wave old new hole hole s set.terms tables
+    (λ v. elim (same_or_not v node) [
+      | inl e ↦
+          (let now = set.here in
+          let same = ap (λ v. at_node new.depth v) e in
+          let low = s.low (parent wave.tree node) in
+          omega arith)
+      | inr n ↦ (let same = set.others v n in let low = s.low v in omega arith)
+    ])
+    (deepens wave (state_of old) (state_of new) node hole s.kept (record {
+      full = full;
+      terms = set.terms;
+      places = set.places;
+      flow = set.flow;
+      free = set.free;
+      here = (let now = set.here in omega arith);
+      others = set.others;
+    }))
 
 pub sunk_standing : (wave : Wave) (mid new : Tables) (node below : TreeNode)
     → IsStandingBut wave mid (Some node) → AreTables wave new → parent wave.tree below ≡ node
@@ -54,13 +54,11 @@ pub sunk_standing : (wave : Wave) (mid new : Tables) (node below : TreeNode)
     → 0 < at_node mid.flow below → at_node mid.depth (parent wave.tree below) ≤ at_node mid.depth below
     → IsFlowSet (state_of mid) (state_of new) below (at_node mid.flow below - 1)
     → IsStandingBut wave new (Some below)
-sunk_standing wave mid new node below s tables above hangs some level set = record {
-  tables = tables;
-  low = λ v. (let same = ap (λ d. d v) set.depth in let low = s.low v in omega arith);
-  kept = pushes_up wave (state_of mid) (state_of new) below
-      (subst (λ v. IsKeptBut wave (state_of mid) (Some v)) (sym above) s.kept) hangs
-      (let up = s.kept.level.up below some in omega arith) some set;
-}
+sunk_standing wave mid new node below s tables above hangs some level set =
+    stands_as_deep wave mid new (Some node) (Some below) s set.terms set.depth tables
+    (pushes_up wave (state_of mid) (state_of new) below
+    (subst (λ v. IsKeptBut wave (state_of mid) (Some v)) (sym above) s.kept) hangs
+    (let up = s.kept.level.up below some in omega arith) some set)
 
 pub sunk_depth : (wave : Wave) (mid new : Tables) (node below : TreeNode) (units : ℕ)
     → IsStandingBut wave mid (Some node) → parent wave.tree below ≡ node → 0 < at_node mid.flow below

@@ -1,9 +1,10 @@
 -- Along the way that a search found no step costs anything once the depths have risen.
-use Rattle.std.proofs.Common.{◌≡◌, ℕ, ◌+◌, ◌-◌, ◌<◌, ◌≤◌, min, None, refl, ap, ◌∙◌, inl, inr, arith}
-use Rattle.wave_problem.specs.Wave.{Wave, reward}
+use Rattle.std.proofs.Common.{◌≡◌, ℕ, ◌+◌, ◌-◌, ◌<◌, ◌≤◌, length, min, None, refl, ap, ◌∙◌, inl, inr, arith}
+use Rattle.wave_problem.specs.Wave.{Wave}
 use Rattle.tree_flow.specs.declared.nodes.End.{End}
 use Rattle.tree_flow.specs.declared.nodes.Place.TheVariants.{Unshipped}
 use Rattle.tree_flow.specs.declared.nodes.TreeNode.{TreeNode}
+use Rattle.tree_flow.specs.declared.nodes.TreeNode.TheVariants.{Worker}
 use Rattle.tree_planner.specs.declared.search.Goal.{Goal}
 use Rattle.tree_planner.specs.declared.search.Goal.TheVariants.{Wait, Slot, Off}
 use Rattle.tree_planner.specs.declared.search.Ground.{Ground}
@@ -12,11 +13,12 @@ use Rattle.tree_planner.specs.declared.search.Step.{Step}
 use Rattle.tree_planner.specs.declared.search.Step.TheVariants.{Start, Down, Up, Over}
 use Rattle.tree_flow.specs.Moves.{AreDistances}
 use Rattle.tree_flow.specs.Nodes.{parent, IsEnd}
-use Rattle.tree_flow.specs.State.{State, place_of, reach_cost, sum_under, IsKept}
+use Rattle.tree_flow.specs.State.{State, Terms, place_of, reach_cost, slots_of, sum_under, taken, IsKept}
 use Rattle.tree_planner.specs.Searching.{far_at, order_at, state_at, step_at, wave_of, EndsIn, IsBefore, IsGround}
-use Rattle.tree_planner.specs.Searching.{IsLastOne, IsSearched, LeadsTo}
+use Rattle.tree_planner.specs.Searching.{next_price, IsLastOne, IsSearched, LeadsTo}
 use Rattle.tree_planner.specs.Way.{IsOnWay, IsReady, IsTight, IsTightGoal}
 use Rattle.tree_flow.proofs.Raised.{raises, caps, search_ends}
+use Rattle.tree_flow.proofs.Under.{under_worker}
 
 module _ (g : Ground) (ground : IsGround g) (search : Search) (s : IsSearched g search) where
   abbrev wave : Wave
@@ -39,22 +41,32 @@ module _ (g : Ground) (ground : IsGround g) (search : Search) (s : IsSearched g 
 
   kept_raised : IsKept wave raised
   kept_raised = raises wave state raised (λ v. far_at search v) bound None ground.kept distances (record {
+    terms = refl;
     places = refl;
     flow = refl;
     free = refl;
     depth = λ v. refl;
   })
 
-  module _ (new : State) (places : new.places ≡ state.places) (flow : new.flow ≡ state.flow)
-      (free : new.free ≡ state.free)
-      (deeper : (v : TreeNode) → new.depth v ≡ min (reward wave) (state.depth v + (bound - far v))) where
+  module _ (new : State) (terms : new.terms ≡ state.terms) (places : new.places ≡ state.places)
+      (flow : new.flow ≡ state.flow) (free : new.free ≡ state.free)
+      (deeper : (v : TreeNode) → new.depth v ≡ min state.terms.worth (state.depth v + (bound - far v))) where
     kept_new : IsKept wave new
     kept_new = caps wave raised new None kept_raised (record {
+      terms = terms;
       places = places;
       flow = flow;
       free = free;
       depth = deeper;
     })
+
+    -- the next place of a worker costs no more than a start is worth
+    next_most : (w : ℕ) → w < length wave.workers → 0 < state.free w → next_price g w ≤ state.terms.worth
+    next_most w known some =
+        let each = ground.kept.balanced.each (Worker w) in
+        let free_here = under_worker wave state.free w known in
+        let slots = under_worker wave (slots_of wave) w known in
+        ground.kept.fair.capped w (taken wave state w) (omega arith)
 
     place_same : (t : ℕ) → place_of new t ≡ place_of state t
     place_same t = ap (λ places. place_of (record state { places = places }) t) places
@@ -94,7 +106,7 @@ module _ (g : Ground) (ground : IsGround g) (search : Search) (s : IsSearched g 
         record {
           is_end = l.is_end;
           least = λ y is. (let lower = start-le y is in omega arith);
-          below_waiting = omega arith;
+          below_waiting = (let worth = ap (λ (t : Terms). t.worth) terms in omega arith);
         }
     tight x on Down l =
         let p = parent wave.tree x in
@@ -150,13 +162,26 @@ module _ (g : Ground) (ground : IsGround g) (search : Search) (s : IsSearched g 
           before = earlier f.node x l.before on;
         }
 
-    tight_goal : (goal : Goal) → EndsIn g search bound goal → IsLastOne g search goal → IsTightGoal wave new search goal
-    tight_goal Wait ends last = λ y is. (let lower = start-le y is in let limit = s.searching.limit in omega arith)
+    tight_goal : (goal : Goal) → EndsIn g search bound goal → IsLastOne search goal → IsTightGoal wave new search goal
+    tight_goal Wait ends last = λ y is.
+        (let lower = start-le y is in
+        let limit = s.searching.limit in
+        let worth = ap (λ (t : Terms). t.worth) terms in
+        omega arith)
     tight_goal (Slot v) ends last = record {
       known = ends.known;
-      some = (let same = ap (λ f. sum_under wave v f) free in let some = ends.some in omega arith);
-      from = record { settled = last.0; reached = ends.reached; near = ends.near };
-      shut = λ c some less. ap (λ f. sum_under wave c f) free ∙ last.1 c some less;
+      some = (let same = ap (λ f. sum_under wave v f) free in let some = ends.slots.some in omega arith);
+      cheap = λ w known under free_now.
+          (let same = ap (λ (f : ℕ → ℕ). f w) free in
+          let some : 0 < state.free w = omega arith in
+          let price = ap (λ (t : Terms). t.price w (taken wave new w)) terms
+          ∙ ap (λ (f : ℕ → ℕ). state.terms.price w (slots_of wave w - f w)) free in
+          let near = ends.slots.near w known under some in
+          let most = next_most w known some in
+          let far = ends.near in
+          let deep = deeper v in
+          omega arith);
+      from = record { settled = last; reached = ends.reached; near = (let near = ends.near in omega arith) };
     }
     tight_goal (Off t) ends last =
         let f : End = ends.from in
@@ -167,7 +192,7 @@ module _ (g : Ground) (ground : IsGround g) (search : Search) (s : IsSearched g 
         record {
           end = f;
           stands = place_same t ∙ ends.stands;
-          tight = omega arith;
+          tight = (let worth = ap (λ (t : Terms). t.worth) terms in omega arith);
           from = record { settled = ends.settled; reached = ends.reached; near = omega arith };
         }
 

@@ -11,7 +11,7 @@ use Rattle.tree_planner.specs.declared.back.StepBack.{StepBack}
 use Rattle.tree_planner.specs.declared.back.StepBack.TheVariants.{Start, Rise, Sink, Over}
 use Rattle.tree_flow.specs.Moves.{AreDistancesBack}
 use Rattle.tree_flow.specs.Nodes.{parent}
-use Rattle.tree_flow.specs.State.{State, place_of, IsKeptBut}
+use Rattle.tree_flow.specs.State.{State, Terms, place_of, IsKeptBut}
 use Rattle.tree_planner.specs.SearchingBack.{far_at, order_at, state_at, step_at, wave_of, EndsIn, IsBefore}
 use Rattle.tree_planner.specs.SearchingBack.{IsHollow}
 use Rattle.tree_planner.specs.SearchingBack.{IsSearched, LeadsTo}
@@ -47,16 +47,18 @@ module _ (h : Hollow) (hollow : IsHollow h) (search : SearchBack) (s : IsSearche
       let limit = s.searching.limit in
       omega arith)
 
-  module _ (new : State) (places : new.places ≡ state.places) (flow : new.flow ≡ state.flow)
-      (free : new.free ≡ state.free)
+  module _ (new : State) (terms : new.terms ≡ state.terms) (places : new.places ≡ state.places)
+      (flow : new.flow ≡ state.flow) (free : new.free ≡ state.free)
       (higher : (v : TreeNode) → new.depth v ≡ state.depth v - (bound - far v)) where
     kept_new : IsKeptBut wave new (Some h.hole)
-    kept_new = lowers wave state new (λ v. far_at search v) bound (Some h.hole) kept distances (record {
-      places = places;
-      flow = flow;
-      free = free;
-      depth = higher;
-    })
+    kept_new = lowers wave state new (λ v. far_at search v) bound (Some h.hole)
+        hollow.standing.plain kept distances (record {
+          terms = terms;
+          places = places;
+          flow = flow;
+          free = free;
+          depth = higher;
+        })
 
     place_same : (t : ℕ) → place_of new t ≡ place_of state t
     place_same t = ap (λ places. place_of (record state { places = places }) t) places
@@ -153,6 +155,7 @@ module _ (h : Hollow) (hollow : IsHollow h) (search : SearchBack) (s : IsSearche
         let waits = distances.waits t to e.waits e.is_end in
         let least = kept.cheapest.waiting t to e.waits e.is_end in
         let near = e.near in
+        let worth = ap (λ (t : Terms). t.worth) terms in
         let one = higher to.node in
         record {
           waits = place_same t ∙ e.waits;

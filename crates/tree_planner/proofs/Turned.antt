@@ -115,7 +115,6 @@ module _ (wave next : Wave) (t : Tables) (others : List (Option Grouped)) (like 
     size = like.bytes.splits;
     workers = like.slots.workers;
     slots = like.slots.slots;
-    same_reward = like.same_reward;
     others = λ s shipped. (
       λ e. ap (λ (b : ℕ). b * (2 * e.level))
           (like.bytes.bytes s),
@@ -125,6 +124,8 @@ module _ (wave next : Wave) (t : Tables) (others : List (Option Grouped)) (like 
 
   pub turned_standing : IsStanding wave t → IsStanding next t
   turned_standing s = record {
+    plain = s.plain;
+    worth = s.worth ∙ sym like.same_reward;
     tables = record {
       places = s.tables.places ∙ sym like.bytes.splits;
       flow = subst (λ (x : Tree). IsOver x t.flow) (sym like.tree) s.tables.flow;

@@ -8,7 +8,7 @@ use Rattle.tree_planner.specs.declared.covers.Cover.{Cover}
 
 -- nothing: their distance with the reward is past twice the reward
 abbrev pub no_cover : Cover
-no_cover = record { offset = 2 ^ 55; split = 0 }
+no_cover = record { offset = 2 ^ 61; split = 0 }
 
 -- the tree has the node, and it is no worker
 abbrev pub IsInner : Tree → TreeNode → Type 0

@@ -9,12 +9,12 @@ use Rattle.tree_planner.specs.declared.tables.Tables.{Tables}
 use Rattle.tree_planner.specs.Ends.{AreEnds}
 use Rattle.tree_planner.specs.Hanging.{AreChildren}
 use Rattle.tree_flow.specs.Nodes.{AreNodes, IsKnown}
-use Rattle.tree_flow.specs.State.{State, slots_of, sum_under, IsKeptBut}
+use Rattle.tree_flow.specs.State.{State, slots_of, sum_under, IsFree, IsKept, IsKeptBut}
 use Rattle.tree_flow.specs.Table.{at_node, IsOver}
 use Rattle.tree_planner.specs.View.{state_of, AreTables}
 
 -- the nodes of the tree, the nodes that hang from each, the ends of the splits, the slots under each node
--- and the worth of a start, of a wave within its limits
+-- and the reward, of a wave within its limits
 pub record IsFixed (wave : Wave) (fixed : Fixed) : Type 0 where
   pub known : IsKnown wave
   pub small : reward wave < 2 ^ 54
@@ -26,8 +26,18 @@ pub record IsFixed (wave : Wave) (fixed : Fixed) : Type 0 where
   pub over : IsOver wave.tree fixed.slots
   pub slots : (v : TreeNode) → at_node fixed.slots v ≡ sum_under wave v (slots_of wave)
 
--- the tables show a state that is kept to but for a hole, in which no node lies deeper than the reward
+-- the tables show a state that is kept to, in which no node lies deeper than a start is worth
+pub record IsHeld (wave : Wave) (t : Tables) : Type 0 where
+  pub tables : AreTables wave t
+  pub small : t.worth < 2 ^ 60
+  pub low : (v : TreeNode) → at_node t.depth v ≤ t.worth
+  pub kept : IsKept wave (state_of t)
+
+-- the tables show a state that is kept to but for a hole, where all places are free and a start is worth the
+-- reward; no node lies deeper than that
 pub record IsStandingBut (wave : Wave) (t : Tables) (hole : Option TreeNode) : Type 0 where
+  pub plain : IsFree (state_of t).terms
+  pub worth : t.worth ≡ reward wave
   pub tables : AreTables wave t
   pub low : (v : TreeNode) → at_node t.depth v ≤ reward wave
   pub kept : IsKeptBut wave (state_of t) hole

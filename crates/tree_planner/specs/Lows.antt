@@ -30,7 +30,7 @@ IsLeastBut wave state s spared least = (x : End) → IsEnd wave s x → (IsSpare
 -- so says the low; and it is no more than any way goes
 pub record IsLow (wave : Wave) (state : State) (s : ℕ) (low : Low) : Type 0 where
   pub least : IsLeastBut wave state s low.spared low.least
-  pub most : low.least ≤ 2 ^ 54
+  pub most : low.least ≤ 2 ^ 60
 
 abbrev pub AreLow : Wave → State → Lows → Type 0
 AreLow wave state lows = (s : ℕ) → IsLow wave state s (low_at lows s)

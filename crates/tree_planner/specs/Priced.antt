@@ -1,7 +1,7 @@
 -- The prices of one worker and of one split.
 use Rattle.std.specs.Prelude.{ℕ, ◌≡◌, ◌+◌, ◌-◌, List, Option, Some, None, slice_index, unwrap_or}
 use Rattle.wave_problem.specs.Assignment.{start_of}
-use Rattle.wave_problem.specs.Wave.{Wave, cost, reward, IsUsable}
+use Rattle.wave_problem.specs.Wave.{Wave, cost, IsUsable}
 use Rattle.tree_flow.specs.Settled.{deepest_above}
 use Rattle.tree_flow.specs.State.{State}
 
@@ -13,8 +13,9 @@ pub record IsWorkerPrice (wave : Wave) (state : State) (w price : ℕ) : Type 0 
 abbrev pub AreWorkerPrices : Wave → State → List ℕ → Type 0
 AreWorkerPrices wave state prices = (w : ℕ) → IsWorkerPrice wave state w (slice_index prices w)
 
--- what its worker's price and its cost leave of the reward
-pub record IsSplitPrice (wave : Wave) (starts : List (Option ℕ)) (workers : List ℕ) (s price : ℕ) : Type 0 where
+-- what its worker's price and its cost leave of what a start is worth
+pub record IsSplitPrice (wave : Wave) (worth : ℕ) (starts : List (Option ℕ)) (workers : List ℕ) (s price : ℕ)
+    : Type 0 where
   pub started : (w : ℕ) → start_of starts s ≡ Some w
-      → price ≡ reward wave - (slice_index workers w + unwrap_or (cost wave s w) 0)
+      → price ≡ worth - (slice_index workers w + unwrap_or (cost wave s w) 0)
   pub unstarted : start_of starts s ≡ None → price ≡ 0

@@ -16,8 +16,8 @@ floor_in row block = slice_index_or row.floors.items block 0
 -- a node, so far away before, has a place in the row, or there is room for it
 pub record HasRoom (row : Reached) (v : TreeNode) (before : ℕ) : Type 0 where
   pub node : HasNode row.places v
-  pub fresh : 2 ^ 54 ≤ before → row.count < length row.nodes.items
-  pub placed : before < 2 ^ 54 → place_in row v < length row.nodes.items
+  pub fresh : 2 ^ 60 ≤ before → row.count < length row.nodes.items
+  pub placed : before < 2 ^ 60 → place_in row v < length row.nodes.items
   pub floors : length row.nodes.items < 32 * length row.floors.items
 
 -- the node comes last in the row
@@ -28,8 +28,8 @@ pub record ComesLast (old new : Reached) (v : TreeNode) : Type 0 where
 
 -- a node that was so far away before was noted at a distance; no floor of a block in use rises
 pub record IsNoted (old new : Reached) (v : TreeNode) (before distance : ℕ) : Type 0 where
-  pub fresh : 2 ^ 54 ≤ before → ComesLast old new v
-  pub same : before < 2 ^ 54 → new ≡ record old { floors = new.floors }
+  pub fresh : 2 ^ 60 ≤ before → ComesLast old new v
+  pub same : before < 2 ^ 60 → new ≡ record old { floors = new.floors }
   pub others : (u : TreeNode) → u ≢ v → place_in new u ≡ place_in old u
   pub size : IsSized old.places new.places
   pub blocks : length new.floors.items ≡ length old.floors.items

@@ -1,13 +1,13 @@
 -- What a search for a slot keeps to, and what it finds.
-use Rattle.std.specs.Prelude.{ℕ, ◌≡◌, ◌≢◌, ◌+◌, ◌*◌, ◌/◌, ◌^◌, ◌<◌, ◌≤◌, ◌⊎◌, min, length}
+use Rattle.std.specs.Prelude.{ℕ, ◌≡◌, ◌≢◌, ◌+◌, ◌*◌, ◌/◌, ◌^◌, ◌<◌, ◌≤◌, ◌⊎◌, min, true, length}
 use Rattle.std.specs.Prelude.{Bool, count_by, nat_lt, slice_index_or}
 use Rattle.rack_tree.specs.Tree.{Tree}
 use Rattle.wave_problem.specs.declared.TheConstants.{MAX_SPLITS}
-use Rattle.wave_problem.specs.Wave.{Wave, reward}
+use Rattle.wave_problem.specs.Wave.{Wave}
 use Rattle.tree_flow.specs.declared.nodes.End.{End}
 use Rattle.tree_flow.specs.declared.nodes.Place.TheVariants.{Stands}
 use Rattle.tree_flow.specs.declared.nodes.TreeNode.{TreeNode}
-use Rattle.tree_flow.specs.declared.nodes.TreeNode.TheVariants.{Cluster}
+use Rattle.tree_flow.specs.declared.nodes.TreeNode.TheVariants.{Cluster, Worker}
 use Rattle.tree_planner.specs.declared.search.Candidate.{Candidate}
 use Rattle.tree_planner.specs.declared.covers.Cover.{Cover}
 use Rattle.tree_planner.specs.declared.search.Goal.{Goal}
@@ -24,8 +24,8 @@ use Rattle.tree_planner.specs.Reaching.{floor_in, place_in}
 use Rattle.tree_planner.specs.Hanging.{AreChildren}
 use Rattle.tree_planner.specs.Lows.{AreLow}
 use Rattle.tree_flow.specs.Moves.{IsLookedFrom}
-use Rattle.tree_flow.specs.Nodes.{parent, AreNodes, IsEnd, IsKnown, IsNode}
-use Rattle.tree_flow.specs.State.{State, place_of, reach_cost, slots_of, sum_under, IsKept}
+use Rattle.tree_flow.specs.Nodes.{is_under, parent, AreNodes, IsEnd, IsKnown, IsNode}
+use Rattle.tree_flow.specs.State.{State, place_of, reach_cost, slots_of, sum_under, taken, IsKept}
 use Rattle.tree_flow.specs.Table.{at_node, at_or, IsOver}
 use Rattle.tree_planner.specs.View.{state_of, AreTables}
 
@@ -35,24 +35,28 @@ wave_of g = g.problem.now
 abbrev pub state_at : Ground → State
 state_at g = state_of g.tables.now
 
--- what a search stands on: a state that is kept to, none of whose nodes lies deeper than the reward
+-- what a start is worth
+abbrev pub worth_at : Ground → ℕ
+worth_at g = (state_at g).terms.worth
+
+-- what a search stands on: a state that is kept to, none of whose nodes lies deeper than a start is worth
 pub record IsGround (g : Ground) : Type 0 where
   pub known : IsKnown (wave_of g)
-  pub small : reward (wave_of g) < 2 ^ 54
+  pub small : worth_at g < 2 ^ 60
   pub few : length (wave_of g).splits ≤ MAX_SPLITS
   pub nodes : AreNodes (wave_of g).tree g.nodes.now
   pub children : AreChildren (wave_of g).tree g.children.now
   pub ends : AreEnds (wave_of g) g.ends.now
-  pub worth : g.reward ≡ reward (wave_of g)
+  pub worth : g.reward ≡ worth_at g
   pub over : IsOver (wave_of g).tree g.slots.now
   pub slots : (v : TreeNode) → at_node g.slots.now v ≡ sum_under (wave_of g) v (slots_of (wave_of g))
   pub tables : AreTables (wave_of g) g.tables.now
-  pub low : (v : TreeNode) → (state_at g).depth v ≤ reward (wave_of g)
+  pub low : (v : TreeNode) → (state_at g).depth v ≤ worth_at g
   pub kept : IsKept (wave_of g) (state_at g)
 
--- how far a node is at most: as the search came to it, or 2 ^ 54, which is farther than any way goes
+-- how far a node is at most: as the search came to it, or 2 ^ 60, which is farther than any way goes
 abbrev pub far_at : Search → TreeNode → ℕ
-far_at search v = at_or search.far (2 ^ 54) v
+far_at search v = at_or search.far (2 ^ 60) v
 
 -- as which one it was looked from, from 1, or 0 if it was not yet
 abbrev pub order_at : Search → TreeNode → ℕ
@@ -88,7 +92,7 @@ AreOf g s Out group = (x : End) → IsOf (wave_of g).tree Out group x → IsEnd 
 
 -- whether it was come to
 abbrev pub has_come : Search → TreeNode → Bool
-has_come search v = nat_lt (far_at search v) (2 ^ 54)
+has_come search v = nat_lt (far_at search v) (2 ^ 60)
 
 -- the nodes that were come to stand first in their row, each once and at its place; there is a floor for each
 -- place; and the search has looked from no other node
@@ -98,7 +102,7 @@ pub record HasReached (tree : Tree) (search : Search) : Type 0 where
   pub known : (k : ℕ) → k < search.reached.count → IsNode tree (reached_at search k)
   pub near : (k : ℕ) → k < search.reached.count → far_at search (reached_at search k) < search.limit
   pub once : (j k : ℕ) → j < k → k < search.reached.count → reached_at search j ≢ reached_at search k
-  pub placed : (v : TreeNode) → far_at search v < 2 ^ 54
+  pub placed : (v : TreeNode) → far_at search v < 2 ^ 60
       → (place_at search v < search.reached.count) × (reached_at search (place_at search v) ≡ v)
   pub looked : (v : TreeNode) → 0 < order_at search v → far_at search v < search.limit
 
@@ -115,7 +119,7 @@ pub record IsBlank (tree : Tree) (nodes : ℕ) (search : Search) : Type 0 where
   pub tables : HasTables tree search
   pub room : length search.reached.nodes.items ≡ nodes
   pub blocks : nodes < 32 * length search.reached.floors.items
-  pub far : (v : TreeNode) → 2 ^ 54 ≤ far_at search v
+  pub far : (v : TreeNode) → 2 ^ 60 ≤ far_at search v
   pub none : (v : TreeNode) → order_at search v ≡ 0
 
 -- how it was come to
@@ -166,12 +170,31 @@ LeadsTo g search x distance Down = GoesDown g search x distance
 LeadsTo g search x distance (Up c) = GoesUp g search x distance c
 LeadsTo g search x distance (Over t level) = GoesOver g search x distance t level
 
+-- what the next place of a worker costs
+abbrev pub next_price : Ground → ℕ → ℕ
+next_price g w = (state_at g).terms.price w (taken (wave_of g) (state_at g) w)
+
+-- a slot is free under the node, and the next place of each worker under it that has one costs no more than this
+-- above the node's depth
+pub record IsOpenAt (g : Ground) (v : TreeNode) (rest : ℕ) : Type 0 where
+  pub some : 0 < sum_under (wave_of g) v (state_at g).free
+  pub near : (w : ℕ) → w < length (wave_of g).workers → is_under (wave_of g).tree (Worker w) v ≡ true
+      → 0 < (state_at g).free w → next_price g w ≤ (state_at g).depth v + rest
+
+-- how far a free slot is from the node: if this is not farther than any way goes, one is as near, and none of the
+-- node's own, where it is a worker, is nearer
+pub record IsRest (g : Ground) (v : TreeNode) (rest : ℕ) : Type 0 where
+  pub found : rest < 2 ^ 60 → IsOpenAt g v rest
+  pub own : (w : ℕ) → w < length (wave_of g).workers → v ≡ Worker w → 0 < (state_at g).free w
+      → (state_at g).depth v + rest ≤ next_price g w
+
 -- a free slot lies under the node, at no more than the bound
 pub record EndsInSlot (g : Ground) (search : Search) (bound : ℕ) (v : TreeNode) : Type 0 where
   pub known : IsNode (wave_of g).tree v
-  pub some : 0 < sum_under (wave_of g) v (state_at g).free
   pub reached : far_at search v < search.limit
-  pub near : far_at search v ≤ bound
+  pub rest : ℕ
+  pub slots : IsOpenAt g v rest
+  pub near : far_at search v + rest ≤ bound
 
 -- a split can be sent off
 pub record EndsOff (g : Ground) (search : Search) (bound t : ℕ) : Type 0 where
@@ -179,7 +202,7 @@ pub record EndsOff (g : Ground) (search : Search) (bound t : ℕ) : Type 0 where
   pub stands : place_of (state_at g) t ≡ Stands from
   pub reached : far_at search from.node < search.limit
   pub settled : 0 < order_at search from.node
-  pub near : far_at search from.node + reward (wave_of g) ≤ bound + reach_cost (wave_of g) (state_at g) t from
+  pub near : far_at search from.node + worth_at g ≤ bound + reach_cost (wave_of g) (state_at g) t from
 
 -- a way ends there, at no more than the bound
 abbrev pub EndsIn : Ground → Search → ℕ → Goal → Type 0
@@ -191,7 +214,7 @@ EndsIn g search bound (Off t) = EndsOff g search bound t
 pub record IsCovered (g : Ground) (search : Search) (cover : Cover) (u : TreeNode) : Type 0 where
   pub known : cover.split < length (wave_of g).splits
   pub near : (v : TreeNode) → IsLeft (wave_of g).tree (IsOut g cover.split) u v
-      → min search.bound (far_at search v) + reward (wave_of g) ≤ cover.offset + (state_at g).depth v
+      → min search.bound (far_at search v) + worth_at g ≤ cover.offset + (state_at g).depth v
 
 -- what a search keeps to
 pub record IsSearching (g : Ground) (search : Search) : Type 0 where
@@ -199,38 +222,37 @@ pub record IsSearching (g : Ground) (search : Search) : Type 0 where
   pub reached : HasReached (wave_of g).tree search
   pub room : length search.reached.nodes.items ≡ length g.nodes.now
   pub fit : search.reached.count ≤ count_by (has_come search) g.nodes.now
-  pub floors : (v : TreeNode) → far_at search v < 2 ^ 54 → order_at search v ≡ 0
+  pub floors : (v : TreeNode) → far_at search v < 2 ^ 60 → order_at search v ≡ 0
       → floor_at search (place_at search v) ≤ far_at search v
-  pub limit : search.limit + search.least ≡ reward (wave_of g)
+  pub limit : search.limit + search.least ≡ worth_at g
   pub bound : search.bound ≤ search.limit
   pub few : (v : TreeNode) → order_at search v ≤ search.looked
   pub steps : (v : TreeNode) → far_at search v < search.limit
       → LeadsTo g search v (far_at search v) (step_at search v)
   pub level : (u v : TreeNode) → 0 < order_at search u → order_at search v ≡ 0 → far_at search u ≤ far_at search v
   pub goal : EndsIn g search search.bound search.goal
-  pub bottom : (v : TreeNode) → 0 < sum_under (wave_of g) v (state_at g).free → search.bound ≤ far_at search v
-  pub shut : (v : TreeNode) → 0 < order_at search v → sum_under (wave_of g) v (state_at g).free ≡ 0
+  pub bottom : (w : ℕ) → w < length (wave_of g).workers → 0 < (state_at g).free w
+      → search.bound + (state_at g).depth (Worker w) ≤ far_at search (Worker w) + next_price g w
   pub covered : (u : TreeNode) → IsCovered g search (cover_at search u) u
   pub low : AreLow (wave_of g) (state_at g) search.lows
 
--- a node in which the way ends was looked from too, and no node before it has a free slot under it
-abbrev pub IsLastOne : Ground → Search → Goal → Type 0
-IsLastOne g search Wait = Unit {0}
-IsLastOne g search (Slot v) = (0 < order_at search v) × ((c : TreeNode) → 0 < order_at search c
-    → order_at search c < order_at search v → sum_under (wave_of g) c (state_at g).free ≡ 0)
-IsLastOne g search (Off t) = Unit {0}
+-- a node in which the way ends was looked from too
+abbrev pub IsLastOne : Search → Goal → Type 0
+IsLastOne search Wait = Unit {0}
+IsLastOne search (Slot v) = 0 < order_at search v
+IsLastOne search (Off t) = Unit {0}
 
 -- what is left of it when the search has ended
 pub record IsFound (g : Ground) (search : Search) : Type 0 where
   pub tables : HasTables (wave_of g).tree search
   pub reached : HasReached (wave_of g).tree search
   pub room : length search.reached.nodes.items ≡ length g.nodes.now
-  pub limit : search.limit + search.least ≡ reward (wave_of g)
+  pub limit : search.limit + search.least ≡ worth_at g
   pub bound : search.bound ≤ search.limit
   pub steps : (v : TreeNode) → far_at search v < search.limit
       → LeadsTo g search v (far_at search v) (step_at search v)
   pub goal : EndsIn g search search.bound search.goal
-  pub last : IsLastOne g search search.goal
+  pub last : IsLastOne search search.goal
 
 -- an end of the split was come to, or lies past the bound
 abbrev pub IsStartedAt : Ground → Search → End → Type 0
@@ -321,4 +343,4 @@ pub record GoesAllOver (g : Ground) (search : Search) (c : TreeNode) (t : ℕ) :
   pub over : (e x : End) → place_of (state_at g) t ≡ Stands e → e.node ≡ c → IsEnd (wave_of g) t x
       → IsOverTo g search e t x
   pub out : (e : End) → place_of (state_at g) t ≡ Stands e → e.node ≡ c
-      → search.bound + reach_cost (wave_of g) (state_at g) t e ≤ far_at search e.node + reward (wave_of g)
+      → search.bound + reach_cost (wave_of g) (state_at g) t e ≤ far_at search e.node + worth_at g

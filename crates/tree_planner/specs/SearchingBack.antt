@@ -98,7 +98,8 @@ pub record EndsJoined (h : Hollow) (search : SearchBack) (bound t : ℕ) (to : E
   pub is_end : IsEnd (wave_of h) t to
   pub reached : far_at search to.node < search.limit
   pub settled : 0 < order_at search to.node
-  pub near : far_at search to.node + reach_cost (wave_of h) (state_at h) t to ≤ bound + reward (wave_of h)
+  pub near : far_at search to.node + reach_cost (wave_of h) (state_at h) t to
+      ≤ bound + (state_at h).terms.worth
 
 -- a way of the hole ends there, at no more than the bound
 abbrev pub EndsIn : Hollow → SearchBack → ℕ → Rest → Type 0
@@ -201,7 +202,7 @@ pub record IsInto (h : Hollow) (search : SearchBack) (c : TreeNode) (t : ℕ) (x
       → min search.bound (far_at search e.node) + reach_cost (wave_of h) (state_at h) t e
       ≤ far_at search c + reach_cost (wave_of h) (state_at h) t x
   pub waits : place_of (state_at h) t ≡ Waits → x.node ≡ c
-      → search.bound + reward (wave_of h) ≤ far_at search c + reach_cost (wave_of h) (state_at h) t x
+      → search.bound + (state_at h).terms.worth ≤ far_at search c + reach_cost (wave_of h) (state_at h) t x
 
 -- so it is with all ends of t
 abbrev pub AreInto : Hollow → SearchBack → TreeNode → ℕ → Type 0

@@ -2,6 +2,7 @@
 use Rattle.std.specs.Prelude.{ℕ, ◌≡◌, length, slice_index}
 use Rattle.wave_problem.specs.Wave.{Wave}
 use Rattle.tree_flow.specs.declared.node_table.NodeTable.{NodeTable}
+use Rattle.price_certificate.specs.Places.{place_price}
 use Rattle.tree_planner.specs.declared.tables.Tables.{Tables}
 use Rattle.tree_flow.specs.declared.nodes.End.{End}
 use Rattle.tree_flow.specs.declared.nodes.Place.TheVariants.{Stands}
@@ -14,6 +15,7 @@ use Rattle.tree_planner.specs.Listing.{AreLists, HasListed}
 -- the state that the tables show
 abbrev pub state_of : Tables → State
 state_of t = record {
+  terms = record { worth = t.worth; price = place_price t.prices };
   places = t.places.items;
   flow = λ v. at_node t.flow v;
   depth = λ v. at_node t.depth v;

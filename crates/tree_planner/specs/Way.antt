@@ -1,18 +1,18 @@
 -- The way that a search found, along which units are moved from its end back.
-use Rattle.std.specs.Prelude.{ℕ, ◌≡◌, ◌≢◌, ◌+◌, ◌-◌, ◌<◌, ◌≤◌, ◌↔◌, min, Option, Some, None}
-use Rattle.wave_problem.specs.Wave.{Wave, reward}
+use Rattle.std.specs.Prelude.{ℕ, ◌≡◌, ◌≢◌, ◌+◌, ◌-◌, ◌<◌, ◌≤◌, ◌↔◌, min, true, length, Option, Some, None}
+use Rattle.wave_problem.specs.Wave.{Wave}
 use Rattle.tree_flow.specs.declared.node_table.NodeTable.{NodeTable}
 use Rattle.tree_flow.specs.declared.nodes.End.{End}
 use Rattle.tree_flow.specs.declared.nodes.Place.TheVariants.{Stands, Unshipped}
 use Rattle.tree_flow.specs.declared.nodes.TreeNode.{TreeNode}
-use Rattle.tree_flow.specs.declared.nodes.TreeNode.TheVariants.{Cluster}
+use Rattle.tree_flow.specs.declared.nodes.TreeNode.TheVariants.{Cluster, Worker}
 use Rattle.tree_planner.specs.declared.search.Goal.{Goal}
 use Rattle.tree_planner.specs.declared.search.Goal.TheVariants.{Wait, Slot, Off}
 use Rattle.tree_planner.specs.declared.search.Search.{Search}
 use Rattle.tree_planner.specs.declared.search.Step.{Step}
 use Rattle.tree_planner.specs.declared.search.Step.TheVariants.{Start, Down, Up, Over}
-use Rattle.tree_flow.specs.Nodes.{parent, IsEnd, IsNode}
-use Rattle.tree_flow.specs.State.{State, place_of, reach_cost, sum_under, IsKept, IsKeptBut}
+use Rattle.tree_flow.specs.Nodes.{is_under, parent, IsEnd, IsNode}
+use Rattle.tree_flow.specs.State.{State, place_of, reach_cost, sum_under, taken, IsKept, IsKeptBut}
 use Rattle.tree_planner.specs.Searching.{far_at, order_at, step_at}
 use Rattle.tree_flow.specs.Table.{at_node}
 
@@ -33,7 +33,7 @@ pub record IsOnWay (search : Search) (v : TreeNode) : Type 0 where
 pub record StartsTight (wave : Wave) (state : State) (s : ℕ) (e : End) : Type 0 where
   pub is_end : IsEnd wave s e
   pub least : (y : End) → IsEnd wave s y → reach_cost wave state s e ≤ reach_cost wave state s y
-  pub below_waiting : reach_cost wave state s e ≤ reward wave
+  pub below_waiting : reach_cost wave state s e ≤ state.terms.worth
 
 -- the steps to a node that cost nothing, from one that was looked from before
 pub record GoesDownTight (wave : Wave) (state : State) (search : Search) (x : TreeNode) : Type 0 where
@@ -67,23 +67,27 @@ IsTight wave state search x (Up c) = GoesUpTight wave state search x c
 IsTight wave state search x (Over t level) =
     GoesOverTight wave state search t (record { node = x; level = level })
 
+-- the next place of each worker under the node that has a free slot costs no more than the node is deep
+abbrev pub AreCheap : Wave → State → TreeNode → Type 0
+AreCheap wave state v = (w : ℕ) → w < length wave.workers → is_under wave.tree (Worker w) v ≡ true
+    → 0 < state.free w → state.terms.price w (taken wave state w) ≤ state.depth v
+
 pub record SlotIsTight (wave : Wave) (state : State) (search : Search) (v : TreeNode) : Type 0 where
   pub known : IsNode wave.tree v
   pub some : 0 < sum_under wave v state.free
+  pub cheap : AreCheap wave state v
   pub from : IsOnWay search v
-  pub shut : (c : TreeNode) → 0 < order_at search c → order_at search c < order_at search v
-      → sum_under wave c state.free ≡ 0
 
 pub record OffIsTight (wave : Wave) (state : State) (search : Search) (t : ℕ) : Type 0 where
   pub end : End
   pub stands : place_of state t ≡ Stands end
-  pub tight : reach_cost wave state t end ≡ reward wave
+  pub tight : reach_cost wave state t end ≡ state.terms.worth
   pub from : IsOnWay search end.node
 
 -- and the end of the way costs nothing
 abbrev pub IsTightGoal : Wave → State → Search → Goal → Type 0
 IsTightGoal wave state search Wait = (y : End) → IsEnd wave search.split y
-    → reward wave ≤ reach_cost wave state search.split y
+    → state.terms.worth ≤ reach_cost wave state search.split y
 IsTightGoal wave state search (Slot v) = SlotIsTight wave state search v
 IsTightGoal wave state search (Off t) = OffIsTight wave state search t
 
@@ -94,17 +98,19 @@ pub record IsReady (wave : Wave) (state : State) (search : Search) : Type 0 wher
   pub steps : (v : TreeNode) → IsOnWay search v → IsTight wave state search v (step_at search v)
   pub goal : IsTightGoal wave state search search.goal
 
--- Units were moved as far back as a node, where a hole is; what was looked from before that is as it was.
+-- Units were moved as far back as a node, where a hole is. To what was looked from before that no fewer units come
+-- than did, and the splits stand there as they did.
 pub record IsFollowing (wave : Wave) (now : State) (search : Search) (node : TreeNode) : Type 0 where
   pub first : State
   pub ready : IsReady wave first search
   pub kept : IsKeptBut wave now (Some node)
   pub known : IsNode wave.tree node
+  pub terms : now.terms ≡ first.terms
   pub depth : now.depth ≡ first.depth
   pub from : IsOnWay search node
   pub unshipped : place_of now search.split ≡ Unshipped
   pub flows : (c : TreeNode) → 0 < order_at search c → order_at search c < order_at search node
-      → now.flow c ≡ first.flow c
+      → first.flow c ≤ now.flow c
   pub places : (t : ℕ) (e : End) → place_of first t ≡ Stands e → order_at search e.node < order_at search node
       → place_of now t ≡ Stands e
 

@@ -1,7 +1,7 @@
 -- The way of a hole that a search back found, along which units are moved until it is filled.
 use Rattle.std.specs.Prelude.{ℕ, ◌≡◌, ◌≢◌, ◌-◌, ◌<◌, ◌≤◌, ◌↔◌, Some}
 use Rattle.rack_tree.specs.Tree.{Tree}
-use Rattle.wave_problem.specs.Wave.{Wave, reward}
+use Rattle.wave_problem.specs.Wave.{Wave}
 use Rattle.tree_flow.specs.declared.node_table.NodeTable.{NodeTable}
 use Rattle.tree_flow.specs.declared.nodes.End.{End}
 use Rattle.tree_flow.specs.declared.nodes.Place.TheVariants.{Stands, Unshipped, Waits}
@@ -81,7 +81,7 @@ pub record FreeIsTight (wave : Wave) (state : State) (search : SearchBack) (v : 
 pub record JoinIsTight (wave : Wave) (state : State) (search : SearchBack) (t : ℕ) (to : End) : Type 0 where
   pub waits : place_of state t ≡ Waits
   pub is_end : IsEnd wave t to
-  pub tight : reach_cost wave state t to ≡ reward wave
+  pub tight : reach_cost wave state t to ≡ state.terms.worth
   pub from : IsOnWay search to.node
 
 -- and the end of the way costs nothing
@@ -103,6 +103,7 @@ pub record AreReady (wave : Wave) (tables : Tables) (depth : NodeTable ℕ) (sea
 
 -- the depth of one node has changed, and nothing else
 pub record IsDepthSet (old new : State) (c : TreeNode) (depth : ℕ) : Type 0 where
+  pub terms : new.terms ≡ old.terms
   pub places : new.places ≡ old.places
   pub flow : new.flow ≡ old.flow
   pub free : new.free ≡ old.free
@@ -116,6 +117,7 @@ AreAllSame old new = (t : ℕ) → (place_of new t ≡ Unshipped) ↔ (place_of 
 -- The hole has moved to a node; what is looked from after that, and what waits, is as it was at first.
 pub record HasMoved (wave : Wave) (first now : State) (search : SearchBack) (node : TreeNode) : Type 0 where
   pub kept : IsKeptBut wave now (Some node)
+  pub terms : now.terms ≡ first.terms
   pub depth : now.depth ≡ first.depth
   pub free : now.free ≡ first.free
   pub unshipped : AreAllSame first now

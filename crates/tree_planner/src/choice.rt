@@ -8,7 +8,7 @@ ghost use Rattle.tree_planner.specs.Choosing.{IsBetter, IsCheapest, IsChoice};
 ghost use Rattle.tree_planner.specs.Ends.{IsLeft, IsOf};
 ghost use Rattle.tree_planner.specs.Searching.{state_at, wave_of, AreOf, IsGround, IsOutBy};
 
-use crate::search::{Ground, cost_at, cost_below, end_cost, ends_of, nodes_below};
+use crate::search::{Ground, cost_at, cost_below, end_cost, ends_of, nodes_below, rest_of};
 use crate::split_ends::{Ends, Group, is_left};
 use tree_flow::{End, TreeNode};
 
@@ -17,7 +17,7 @@ use tree_flow::{End, TreeNode};
 pub enum Choice {
     /// It waits.
     Wait,
-    /// It stands at this end, under which a slot is free.
+    /// It stands at this end, under which a slot is free, and costs no more than the end lies deep.
     Stand(End),
     /// The cheapest way is to be searched. No end costs less than this.
     Search(u64),
@@ -146,6 +146,7 @@ fn better_node(
 }
 
 // The cheaper of the best end so far and another; of two that cost the same one with a free slot under it.
+#[inline(always)]
 fn better(ground: &Ground<'_>, split: u32, best: Cheapest, end: End) -> Cheapest
     requires ground { IsGround ground.now }
     requires is_end { IsEnd (wave_of ground.now) split end }
@@ -157,7 +158,7 @@ fn better(ground: &Ground<'_>, split: u32, best: Cheapest, end: End) -> Cheapest
     if cost > best.least {
         return best;
     }
-    let free = ground.tables.below.get(end.node) > 0;
+    let free = rest_of(ground, end.node) == 0;
     Cheapest {
         least: cost,
         end: if free {

@@ -12,7 +12,7 @@ use std::marker::Model;
 use tree_flow::{NodeTable, TreeNode};
 
 /// How near the nodes that hang from a node are that some split's ends do not leave out: no farther than the
-/// offset with their depth, the reward taken off.
+/// offset with their depth, what a start is worth taken off.
 #[derive(Clone, Copy)]
 pub struct Cover {
     pub offset: u64,

@@ -1,12 +1,13 @@
 //! Free slots under a node.
-ghost use Rattle.std.specs.Prelude.{◌≡◌, ◌≢◌, ℕ, ◌<◌, true, length, Some};
+ghost use Rattle.std.specs.Prelude.{◌≡◌, ◌≢◌, ℕ, ◌<◌, ◌≤◌, true, length, Some};
 ghost use Rattle.tree_flow.specs.declared.nodes.TreeNode.{TreeNode};
 ghost use Rattle.tree_flow.specs.declared.nodes.TreeNode.TheVariants.{Worker};
 ghost use Rattle.tree_flow.specs.Nodes.{is_under, IsKnown, IsNode};
-ghost use Rattle.tree_flow.specs.State.{sum_under, IsKept, IsKeptBut};
+ghost use Rattle.tree_flow.specs.State.{IsKept, IsKeptBut};
 ghost use Rattle.tree_flow.specs.Table.{at_node, IsOver};
 ghost use Rattle.tree_planner.specs.Hanging.{AreChildren, HangsFrom};
 ghost use Rattle.tree_planner.specs.View.{state_of, AreSums, AreTables};
+ghost use Rattle.tree_planner.specs.Way.{AreCheap};
 
 use crate::children::Children;
 use crate::cursors::{Cursors, child_with};
@@ -24,12 +25,13 @@ pub fn take_below(problem: &Problem, children: &Children, tables: &mut Tables, n
     requires kept { IsKept problem.now (state_of tables.old) }
     requires known { IsNode problem.now.tree node }
     requires some { 0 < at_node tables.old.below node }
+    requires cheap { AreCheap problem.now (state_of tables.old) node }
     ensures tables { AreTables problem.now tables.new }
     ensures hole { IsKeptBut problem.now (state_of tables.new) (Some node) }
     ensures places { (state_of tables.new).places ≡ (state_of tables.old).places }
     ensures depth { tables.new.depth ≡ tables.old.depth }
-    ensures flows { (c : TreeNode) → sum_under problem.now c (state_of tables.old).free ≡ 0
-        → (state_of tables.new).flow c ≡ (state_of tables.old).flow c }
+    ensures terms { (state_of tables.new).terms ≡ (state_of tables.old).terms }
+    ensures flows { (c : TreeNode) → (state_of tables.old).flow c ≤ (state_of tables.new).flow c }
 {
     let worker = free_worker(problem, children, &tables.below, &mut tables.cursors, node);
     take_slot(problem, tables, worker);
@@ -87,19 +89,20 @@ fn free_child(
     }
 }
 
-// Moves a hole up from one node to another, over nodes that all lie at 0: a unit more goes down to each.
+// Moves a hole up from one node to another, over nodes that lie as deep as that: a unit more goes down to each.
 fn raise_hole(problem: &Problem, tables: &mut Tables, from: TreeNode, node: TreeNode)
     requires tables { AreTables problem.now tables.old }
     requires hole { IsKeptBut problem.now (state_of tables.old) (Some from) }
     requires known { IsNode problem.now.tree from }
     requires under { is_under problem.now.tree from node ≡ true }
-    requires flat { (u : TreeNode) → is_under problem.now.tree from u ≡ true → (state_of tables.old).depth u ≡ 0 }
+    requires flat { (u : TreeNode) → is_under problem.now.tree from u ≡ true → is_under problem.now.tree u node ≡ true
+        → (state_of tables.old).depth u ≡ (state_of tables.old).depth node }
     ensures tables { AreTables problem.now tables.new }
     ensures hole { IsKeptBut problem.now (state_of tables.new) (Some node) }
     ensures places { (state_of tables.new).places ≡ (state_of tables.old).places }
     ensures depth { tables.new.depth ≡ tables.old.depth }
-    ensures flows { (c : TreeNode) → (is_under problem.now.tree from c ≡ true → ⊥)
-        → (state_of tables.new).flow c ≡ (state_of tables.old).flow c }
+    ensures terms { (state_of tables.new).terms ≡ (state_of tables.old).terms }
+    ensures flows { (c : TreeNode) → (state_of tables.old).flow c ≤ (state_of tables.new).flow c }
 {
     problem.limits();
     let mut hole = from;

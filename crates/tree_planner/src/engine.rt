@@ -1,18 +1,20 @@
 //! Splits shipped one after another.
-ghost use Rattle.std.specs.Prelude.{◌≡◌, ◌≢◌, ℕ, ◌<◌, ◌≤◌, IfOk, IsTrue, length, OnOk};
+ghost use Rattle.std.specs.Prelude.{◌≡◌, ◌≢◌, ℕ, ◌<◌, ◌≤◌, All, IfOk, IsTrue, List, length, OnOk};
 ghost use Rattle.tree_flow.specs.declared.nodes.Place.TheVariants.{Unshipped};
-ghost use Rattle.price_certificate.specs.Certificate.{claim, worker_price, Certifies, HasOneSize};
+ghost use Rattle.price_certificate.specs.Certificate.{charged_claim, claim, worker_price, Certifies, HasOneSize};
+ghost use Rattle.price_certificate.specs.Places.{IsBestByCharge, IsFitRow};
+ghost use Rattle.tree_flow.specs.Settled.{AreTermsOf};
 ghost use Rattle.wave_problem.specs.Assignment.{pairs_of, IsBest};
-ghost use Rattle.wave_problem.specs.Wave.{reward, IsUsable};
+ghost use Rattle.wave_problem.specs.Wave.{IsUsable};
 ghost use Rattle.tree_flow.specs.declared.node_table.NodeTable.{NodeTable};
-ghost use Rattle.tree_planner.specs.Engine.{with_depth, IsFixed, IsStanding};
+ghost use Rattle.tree_planner.specs.Engine.{with_depth, IsFixed, IsHeld};
 ghost use Rattle.tree_planner.specs.Searching.{HasReached, HasTables, IsBlank, IsGround};
 ghost use Rattle.tree_flow.specs.Table.{at_node};
 ghost use Rattle.tree_flow.specs.State.{place_of};
 ghost use Rattle.tree_planner.specs.Lows.{AreLow};
 ghost use Rattle.tree_planner.specs.View.{state_of};
 ghost use Rattle.tree_planner.specs.Choosing.{IsChoice, IsLeast};
-ghost use Rattle.tree_planner.specs.Way.{AreDeeper, AreOthersSame, IsReady, StartsTight};
+ghost use Rattle.tree_planner.specs.Way.{AreCheap, AreDeeper, AreOthersSame, IsReady, StartsTight};
 
 use crate::children::{Children, all_children};
 use crate::choice::{Choice, choose};
@@ -26,7 +28,7 @@ use crate::split_ends::{AllEnds, all_ends};
 use crate::tables::{Tables, fresh_tables, slots_under};
 use crate::tree_nodes::all_nodes;
 use node_ids::{SplitNo, WorkerNo};
-use price_certificate::Prices;
+use price_certificate::{PlacePrices, Prices};
 use std::alloc::{AllocError, Global};
 use tree_flow::{End, NodeTable, Place, TreeNode};
 use wave_problem::{Plan, Problem};
@@ -77,12 +79,13 @@ pub fn fixed_parts(alloc: Global, problem: &Problem) -> Result<Fixed, AllocError
 /// Ships a split, or lets it wait, whichever is cheaper. The search is lent, blank.
 pub fn ship(problem: &Problem, fixed: &Fixed, tables: &mut Tables, search: &mut Search, split: u32)
     requires fixed { IsFixed problem.now fixed.now }
-    requires standing { IsStanding problem.now tables.old }
+    requires held { IsHeld problem.now tables.old }
     requires blank { IsBlank problem.now.tree (length fixed.now.nodes.items) search.old }
     requires split { split < length problem.now.splits }
     requires unshipped { place_of (state_of tables.old) split ≡ Unshipped }
     requires low { AreLow problem.now (state_of tables.old) search.old.lows }
-    ensures standing { IsStanding problem.now tables.new }
+    ensures held { IsHeld problem.now tables.new }
+    ensures terms { (state_of tables.new).terms ≡ (state_of tables.old).terms }
     ensures shipped { place_of (state_of tables.new) split ≢ Unshipped }
     ensures others { AreOthersSame (state_of tables.old) (state_of tables.new) split }
     ensures blank { IsBlank problem.now.tree (length fixed.now.nodes.items) search.new }
@@ -98,7 +101,7 @@ pub fn ship(problem: &Problem, fixed: &Fixed, tables: &mut Tables, search: &mut 
 // What is cheapest for a split, as far as its ends show it.
 fn choice(problem: &Problem, fixed: &Fixed, tables: &Tables, split: u32) -> Choice
     requires fixed { IsFixed problem.now fixed.now }
-    requires standing { IsStanding problem.now tables.now }
+    requires held { IsHeld problem.now tables.now }
     requires split { split < length problem.now.splits }
     ensures { IsChoice problem.now (state_of tables.now) split result }
 {
@@ -108,7 +111,7 @@ fn choice(problem: &Problem, fixed: &Fixed, tables: &Tables, split: u32) -> Choi
 // What a search stands on.
 fn ground_of<'a>(problem: &'a Problem, fixed: &'a Fixed, tables: &'a Tables) -> Ground<'a>
     requires fixed { IsFixed problem.now fixed.now }
-    requires standing { IsStanding problem.now tables.now }
+    requires held { IsHeld problem.now tables.now }
     ensures ground { IsGround result }
     ensures problem { result.problem.now ≡ problem.now }
     ensures nodes { result.nodes.now ≡ fixed.now.nodes.items }
@@ -120,7 +123,7 @@ fn ground_of<'a>(problem: &'a Problem, fixed: &'a Fixed, tables: &'a Tables) -> 
         children: &fixed.children,
         ends: &fixed.ends,
         slots: &fixed.slots,
-        reward: fixed.reward,
+        reward: tables.worth,
         tables,
     }
 }
@@ -128,12 +131,14 @@ fn ground_of<'a>(problem: &'a Problem, fixed: &'a Fixed, tables: &'a Tables) -> 
 // Lets a split stand at an end under which a slot is free.
 fn stand(problem: &Problem, fixed: &Fixed, tables: &mut Tables, split: u32, end: End)
     requires fixed { IsFixed problem.now fixed.now }
-    requires standing { IsStanding problem.now tables.old }
+    requires held { IsHeld problem.now tables.old }
     requires unshipped { place_of (state_of tables.old) split ≡ Unshipped }
     requires split { split < length problem.now.splits }
     requires tight { StartsTight problem.now (state_of tables.old) split end }
     requires free { 0 < at_node tables.old.below end.node }
-    ensures standing { IsStanding problem.now tables.new }
+    requires cheap { AreCheap problem.now (state_of tables.old) end.node }
+    ensures held { IsHeld problem.now tables.new }
+    ensures terms { (state_of tables.new).terms ≡ (state_of tables.old).terms }
     ensures shipped { place_of (state_of tables.new) split ≢ Unshipped }
     ensures others { AreOthersSame (state_of tables.old) (state_of tables.new) split }
     ensures depth { tables.new.depth ≡ tables.old.depth }
@@ -152,20 +157,22 @@ fn search_and_follow(
     least: u64,
 )
     requires fixed { IsFixed problem.now fixed.now }
-    requires standing { IsStanding problem.now tables.old }
+    requires held { IsHeld problem.now tables.old }
     requires blank { IsBlank problem.now.tree (length fixed.now.nodes.items) search.old }
     requires split { split < length problem.now.splits }
     requires unshipped { place_of (state_of tables.old) split ≡ Unshipped }
     requires least { IsLeast problem.now (state_of tables.old) split least }
     requires low { AreLow problem.now (state_of tables.old) search.old.lows }
-    ensures standing { IsStanding problem.now tables.new }
+    ensures held { IsHeld problem.now tables.new }
+    ensures terms { (state_of tables.new).terms ≡ (state_of tables.old).terms }
     ensures shipped { place_of (state_of tables.new) split ≢ Unshipped }
     ensures others { AreOthersSame (state_of tables.old) (state_of tables.new) split }
     ensures blank { IsBlank problem.now.tree (length fixed.now.nodes.items) search.new }
     ensures low { AreLow problem.now (state_of tables.new) search.new.lows }
 {
     find(problem, fixed, tables, search, split, least);
-    deepen(problem, fixed.reward, &mut tables.depth, search);
+    let worth = tables.worth;
+    deepen(problem, worth, &mut tables.depth, search);
     follow(problem, &fixed.children, tables, search);
     search.clear(problem.tree());
 }
@@ -180,7 +187,7 @@ fn find(
     least: u64,
 )
     requires fixed { IsFixed problem.now fixed.now }
-    requires standing { IsStanding problem.now tables.now }
+    requires held { IsHeld problem.now tables.now }
     requires blank { IsBlank problem.now.tree (length fixed.now.nodes.items) search.old }
     requires split { split < length problem.now.splits }
     requires unshipped { place_of (state_of tables.now) split ≡ Unshipped }
@@ -192,8 +199,8 @@ fn find(
     ensures reached { HasReached problem.now.tree search.new }
     ensures room { length search.new.reached.nodes.items ≡ length fixed.now.nodes.items }
     ensures bound { search.new.bound ≤ search.new.limit }
-    ensures limit { search.new.limit ≤ reward problem.now }
-    ensures ready { (depth : NodeTable ℕ) → AreDeeper (reward problem.now) tables.now.depth search.new depth
+    ensures limit { search.new.limit ≤ tables.now.worth }
+    ensures ready { (depth : NodeTable ℕ) → AreDeeper tables.now.worth tables.now.depth search.new depth
         → IsReady problem.now (with_depth (state_of tables.now) depth) search.new }
 {
     find_way(&ground_of(problem, fixed, tables), search, split, least);
@@ -208,11 +215,12 @@ pub fn ship_once(
     split: u32,
 )
     requires fixed { IsFixed problem.now fixed.now }
-    requires standing { IsStanding problem.now tables.old }
+    requires held { IsHeld problem.now tables.old }
     requires blank { IsBlank problem.now.tree (length fixed.now.nodes.items) search.old }
     requires split { split < length problem.now.splits }
     requires low { AreLow problem.now (state_of tables.old) search.old.lows }
-    ensures standing { IsStanding problem.now tables.new }
+    ensures held { IsHeld problem.now tables.new }
+    ensures terms { (state_of tables.new).terms ≡ (state_of tables.old).terms }
     ensures shipped { place_of (state_of tables.new) split ≢ Unshipped }
     ensures others { AreOthersSame (state_of tables.old) (state_of tables.new) split }
     ensures blank { IsBlank problem.now.tree (length fixed.now.nodes.items) search.new }
@@ -232,10 +240,11 @@ fn ship_if_known(
     split: u32,
 )
     requires fixed { IsFixed problem.now fixed.now }
-    requires standing { IsStanding problem.now tables.old }
+    requires held { IsHeld problem.now tables.old }
     requires low { AreLow problem.now (state_of tables.old) search.old.lows }
     requires blank { IsBlank problem.now.tree (length fixed.now.nodes.items) search.old }
-    ensures standing { IsStanding problem.now tables.new }
+    ensures held { IsHeld problem.now tables.new }
+    ensures terms { (state_of tables.new).terms ≡ (state_of tables.old).terms }
     ensures blank { IsBlank problem.now.tree (length fixed.now.nodes.items) search.new }
     ensures low { AreLow problem.now (state_of tables.new) search.new.lows }
 {
@@ -252,8 +261,9 @@ fn ship_in_order(
     tables: &mut Tables,
 ) -> Result<(), AllocError>
     requires fixed { IsFixed problem.now fixed.now }
-    requires standing { IsStanding problem.now tables.old }
-    ensures { IsStanding problem.now tables.new }
+    requires held { IsHeld problem.now tables.old }
+    ensures held { IsHeld problem.now tables.new }
+    ensures terms { (state_of tables.new).terms ≡ (state_of tables.old).terms }
 {
     let mut search = Search::new(alloc, problem.tree(), fixed.nodes.len(), problem.splits())?;
     let order = shipping_order(alloc, problem, fixed.slots.get(TreeNode::Cluster))?;
@@ -271,8 +281,9 @@ pub fn ship_rest(
     tables: &mut Tables,
 ) -> Result<(), AllocError>
     requires fixed { IsFixed problem.now fixed.now }
-    requires standing { IsStanding problem.now tables.old }
-    ensures standing { IsStanding problem.now tables.new }
+    requires held { IsHeld problem.now tables.old }
+    ensures held { IsHeld problem.now tables.new }
+    ensures terms { (state_of tables.new).terms ≡ (state_of tables.old).terms }
     ensures shipped { OnOk result ((s : ℕ) → s < length problem.now.splits
         → place_of (state_of tables.new) s ≢ Unshipped) }
 {
@@ -284,7 +295,7 @@ pub fn ship_rest(
 
 // Whether all splits are shipped, or wait.
 fn are_shipped(problem: &Problem, tables: &Tables) -> bool
-    requires { IsStanding problem.now tables.now }
+    requires { IsHeld problem.now tables.now }
     ensures { IsTrue result → (s : ℕ) → s < length problem.now.splits
         → place_of (state_of tables.now) s ≢ Unshipped }
 {
@@ -303,8 +314,9 @@ fn ship_each(
     tables: &mut Tables,
 ) -> Result<(), AllocError>
     requires fixed { IsFixed problem.now fixed.now }
-    requires standing { IsStanding problem.now tables.old }
-    ensures standing { IsStanding problem.now tables.new }
+    requires held { IsHeld problem.now tables.old }
+    ensures held { IsHeld problem.now tables.new }
+    ensures terms { (state_of tables.new).terms ≡ (state_of tables.old).terms }
     ensures shipped { OnOk result ((s : ℕ) → s < length problem.now.splits
         → place_of (state_of tables.new) s ≢ Unshipped) }
 {
@@ -315,14 +327,21 @@ fn ship_each(
     Ok(())
 }
 
-// All splits shipped, or left to wait.
-fn all_shipped(alloc: Global, problem: &Problem, fixed: &Fixed) -> Result<Tables, AllocError>
+// All splits shipped, or left to wait, where places have these prices.
+fn all_shipped(
+    alloc: Global,
+    problem: &Problem,
+    fixed: &Fixed,
+    places: PlacePrices,
+) -> Result<Tables, AllocError>
     requires { IsFixed problem.now fixed.now }
-    ensures standing { IfOk result (λ tables. IsStanding problem.now tables) }
+    ensures held { IfOk result (λ tables. IsHeld problem.now tables) }
+    ensures terms { IfOk result (λ tables. AreTermsOf problem.now places (state_of tables).terms) }
     ensures shipped { IfOk result (λ tables. (s : ℕ) → s < length problem.now.splits
         → place_of (state_of tables) s ≢ Unshipped) }
 {
-    let mut tables = fresh_tables(alloc, problem)?;
+    let worth = fixed.reward + places.total(problem);
+    let mut tables = fresh_tables(alloc, problem, worth, places)?;
     ship_in_order(alloc, problem, fixed, &mut tables)?;
     ship_rest(alloc, problem, fixed, &mut tables)?;
     Ok(tables)
@@ -338,9 +357,31 @@ pub fn plan(alloc: Global, problem: &Problem) -> Result<(Plan, Prices), AllocErr
         → worker_price pair.1 w ≡ 0) }
     ensures best { IfOk result (λ pair. IsBest problem.now (pairs_of pair.0.starts)) }
 {
+    let places = PlacePrices::free(alloc);
+    plan_places(alloc, problem, &places)
+}
+
+/// The same where places have prices: a plan that starts as many splits as any admissible assignment, at the
+/// least charge among those, which is the byte-distance with the prices of the places that are taken. Each
+/// split is shipped by a search over the nodes of the tree, as the first slots of a worker are no longer as good
+/// as others: some thousand splits take seconds.
+pub fn plan_places(
+    alloc: Global,
+    problem: &Problem,
+    places: &PlacePrices,
+) -> Result<(Plan, Prices), AllocError>
+    ensures sizes { IfOk result
+        (λ pair. HasOneSize (claim problem.now pair.0.starts pair.1) pair.0.workers) }
+    ensures certifies { IfOk result
+        (λ pair. Certifies (charged_claim problem.now places.now pair.0.starts pair.1)) }
+    ensures idle { IfOk result (λ pair. (w : ℕ) → (IsUsable problem.now.workers w → ⊥)
+        → worker_price pair.1 w ≡ 0) }
+    ensures best { IfOk result (λ pair. IsBestByCharge places.now problem.now (pairs_of pair.0.starts)) }
+{
     problem.limits();
+    places.limits();
     let base = fixed_parts(alloc, problem)?;
-    let tables = all_shipped(alloc, problem, &base)?;
+    let tables = all_shipped(alloc, problem, &base, places.copy(alloc)?)?;
     let found = read_off(alloc, problem, &base, &tables)?;
     Ok((found.plan, found.prices))
 }
@@ -353,7 +394,7 @@ pub struct Found {
     pub pairs: Vec<(SplitNo, WorkerNo)>,
 }
 
-/// The plan and the prices that the tables show.
+/// The plan and the prices that the tables show, best on any prices of places of which the tables' terms are.
 pub fn read_off(
     alloc: Global,
     problem: &Problem,
@@ -361,21 +402,23 @@ pub fn read_off(
     tables: &Tables,
 ) -> Result<Found, AllocError>
     requires fixed { IsFixed problem.now fixed.now }
-    requires standing { IsStanding problem.now tables.now }
+    requires held { IsHeld problem.now tables.now }
     requires shipped { (s : ℕ) → s < length problem.now.splits
         → place_of (state_of tables.now) s ≢ Unshipped }
     ensures sizes { IfOk result
         (λ found. HasOneSize (claim problem.now found.plan.starts found.prices) found.plan.workers) }
-    ensures certifies { IfOk result
-        (λ found. Certifies (claim problem.now found.plan.starts found.prices)) }
+    ensures certifies { (places : List (List ℕ)) → AreTermsOf problem.now places (state_of tables.now).terms
+        → IfOk result (λ found. Certifies (charged_claim problem.now places found.plan.starts found.prices)) }
     ensures idle { IfOk result (λ found. (w : ℕ) → (IsUsable problem.now.workers w → ⊥)
         → worker_price found.prices w ≡ 0) }
-    ensures best { IfOk result (λ found. IsBest problem.now (pairs_of found.plan.starts)) }
+    ensures best { (places : List (List ℕ)) → All IsFitRow places
+        → AreTermsOf problem.now places (state_of tables.now).terms
+        → IfOk result (λ found. IsBestByCharge places problem.now (pairs_of found.plan.starts)) }
     ensures pairs { IfOk result (λ found. found.pairs.items ≡ pairs_of found.plan.starts) }
 {
     problem.limits();
     let starts = all_starts(alloc, problem, &fixed.children, tables)?;
-    let prices = prices_of(alloc, problem, fixed.reward, tables, &starts)?;
+    let prices = prices_of(alloc, problem, tables.worth, tables, &starts)?;
     let Starts { each, pairs } = starts;
     Ok(Found {
         plan: Plan::from_starts(each, problem.workers()),

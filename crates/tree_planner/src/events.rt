@@ -19,7 +19,7 @@ ghost use Rattle.tree_planner.specs.View.{state_of};
 ghost use Rattle.tree_planner.specs.Way.{AreOthersSame};
 ghost use Rattle.tree_planner.specs.WayBack.{AreAllSame, IsSpare};
 
-use crate::engine::Fixed;
+use crate::engine::{Fixed, ship_rest};
 use crate::follow::{place, stood_at};
 use crate::refill::{Spare, deepen, fill, sink};
 use crate::split_ends::OwnEnds;
@@ -36,6 +36,22 @@ pub fn place_at(tables: &Tables, split: u32) -> Place
     ensures { result ≡ place_of (state_of tables.now) split }
 {
     tables.places[split as usize]
+}
+
+/// Ships the splits that are not shipped yet, or lets them wait. Without memory some may be left.
+pub fn settle(
+    alloc: Global,
+    problem: &Problem,
+    fixed: &Fixed,
+    tables: &mut Tables,
+) -> Result<(), AllocError>
+    requires fixed { IsFixed problem.now fixed.now }
+    requires standing { IsStanding problem.now tables.old }
+    ensures standing { IsStanding problem.now tables.new }
+    ensures shipped { OnOk result ((s : ℕ) → s < length problem.now.splits
+        → place_of (state_of tables.new) s ≢ Unshipped) }
+{
+    ship_rest(alloc, problem, fixed, tables)
 }
 
 /// A slot of a worker comes back: a split that waits may take it, splits may change their places for it, or

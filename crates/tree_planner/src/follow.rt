@@ -22,35 +22,35 @@ use tree_flow::{End, NodeTable, Place, TreeNode};
 use wave_problem::Problem;
 
 /// After a search each node that is nearer than the end of the way lies deeper by the rest, and none deeper
-/// than the reward.
-pub fn deepen(problem: &Problem, reward: u64, depth: &mut NodeTable<u64>, search: &Search)
+/// than a start is worth.
+pub fn deepen(problem: &Problem, worth: u64, depth: &mut NodeTable<u64>, search: &Search)
     requires over { IsOver problem.now.tree depth.old }
-    requires small { reward < 2 ^ 54 }
-    requires low { (v : TreeNode) → at_node depth.old v ≤ reward }
+    requires small { worth < 2 ^ 60 }
+    requires low { (v : TreeNode) → at_node depth.old v ≤ worth }
     requires bound { search.now.bound ≤ search.now.limit }
-    requires limit { search.now.limit ≤ reward }
+    requires limit { search.now.limit ≤ worth }
     requires far { IsOver problem.now.tree search.now.far }
     requires reached { HasReached problem.now.tree search.now }
     ensures over { IsOver problem.now.tree depth.new }
-    ensures low { (v : TreeNode) → at_node depth.new v ≤ reward }
-    ensures deeper { AreDeeper reward depth.old search.now depth.new }
+    ensures low { (v : TreeNode) → at_node depth.new v ≤ worth }
+    ensures deeper { AreDeeper worth depth.old search.now depth.new }
 {
     let _ = problem;
     for k in 0..search.reached.count {
         let node = search.reached.at(k);
-        let deep = deepened(reward, depth.get(node), search.bound, search.far.get(node));
+        let deep = deepened(worth, depth.get(node), search.bound, search.far.get(node));
         depth.set(node, deep);
     }
 }
 
 // How deep a node at this depth lies then, if it is so far and the end of the way is at the bound.
-fn deepened(reward: u64, depth: u64, bound: u64, far: u64) -> u64
-    requires small { reward < 2 ^ 54 }
-    requires low { depth ≤ reward }
-    requires near { bound ≤ reward }
-    ensures { result ≡ min reward (depth + (bound - far)) }
+fn deepened(worth: u64, depth: u64, bound: u64, far: u64) -> u64
+    requires small { worth < 2 ^ 60 }
+    requires low { depth ≤ worth }
+    requires near { bound ≤ worth }
+    ensures { result ≡ min worth (depth + (bound - far)) }
 {
-    reward.min(depth + bound.saturating_sub(far))
+    worth.min(depth + bound.saturating_sub(far))
 }
 
 /// Moves units along the way that a search found, from its end back, until the split is shipped.
@@ -62,6 +62,7 @@ pub fn follow(problem: &Problem, children: &Children, tables: &mut Tables, searc
     requires split { search.now.split < length problem.now.splits }
     requires ready { IsReady problem.now (state_of tables.old) search.now }
     ensures depth { tables.new.depth ≡ tables.old.depth }
+    ensures terms { (state_of tables.new).terms ≡ (state_of tables.old).terms }
     ensures tables { AreTables problem.now tables.new }
     ensures shipped { IsShipped problem.now (state_of tables.new) search.now.split }
     ensures others { AreOthersSame (state_of tables.old) (state_of tables.new) search.now.split }
@@ -85,6 +86,7 @@ fn take_end(
     requires split { search.now.split < length problem.now.splits }
     requires ready { IsReady problem.now (state_of tables.old) search.now }
     ensures depth { tables.new.depth ≡ tables.old.depth }
+    ensures terms { (state_of tables.new).terms ≡ (state_of tables.old).terms }
     ensures tables { AreTables problem.now tables.new }
     ensures hole { MatchOption result
         (IsShipped problem.now (state_of tables.new) search.now.split)
@@ -120,6 +122,7 @@ fn step_back(
     requires split { search.now.split < length problem.now.splits }
     requires following { IsFollowing problem.now (state_of tables.old) search.now node }
     ensures depth { tables.new.depth ≡ tables.old.depth }
+    ensures terms { (state_of tables.new).terms ≡ (state_of tables.old).terms }
     ensures tables { AreTables problem.now tables.new }
     ensures hole { MatchOption result
         (IsShipped problem.now (state_of tables.new) search.now.split)
@@ -176,6 +179,7 @@ pub fn place(problem: &Problem, tables: &mut Tables, split: u32, place: Place)
     ensures placed { IsPlaced (state_of tables.old) (state_of tables.new) split place }
     ensures tables { AreTables problem.now tables.new }
     ensures depth { tables.new.depth ≡ tables.old.depth }
+    ensures terms { (state_of tables.new).terms ≡ (state_of tables.old).terms }
 {
     tables.places[split as usize] = place;
     if let Place::Stands(end) = place {
@@ -250,6 +254,7 @@ pub fn set_flow(problem: &Problem, tables: &mut Tables, node: TreeNode, units: u
     ensures set { IsFlowSet (state_of tables.old) (state_of tables.new) node units }
     ensures tables { AreTables problem.now tables.new }
     ensures depth { tables.new.depth ≡ tables.old.depth }
+    ensures terms { (state_of tables.new).terms ≡ (state_of tables.old).terms }
 {
     let _ = problem;
     tables.flow.set(node, units);
@@ -263,6 +268,7 @@ pub fn take_slot(problem: &Problem, tables: &mut Tables, worker: u16)
     ensures taken { IsTaken problem.now (state_of tables.old) (state_of tables.new) worker }
     ensures tables { AreTables problem.now tables.new }
     ensures depth { tables.new.depth ≡ tables.old.depth }
+    ensures terms { (state_of tables.new).terms ≡ (state_of tables.old).terms }
 {
     take_free(problem, tables, worker);
     one_less_above(problem, &mut tables.below, WorkerNo::new(worker));

@@ -14,8 +14,8 @@ ghost use Rattle.tree_flow.specs.State.{place_of, IsKept};
 ghost use Rattle.tree_planner.specs.Way.{AreOthersSame};
 ghost use Rattle.wave_problem.specs.Assignment.{pairs_of, IsBest};
 
-use crate::engine::{Fixed, Found, fixed_parts, read_off, ship, ship_rest};
-use crate::events::{free, pass_over, pend, place_at, start};
+use crate::engine::{Fixed, Found, fixed_parts, read_off, ship};
+use crate::events::{free, pass_over, pend, place_at, settle, start};
 use crate::like::is_like;
 use crate::lose::lose;
 use crate::refill::Spare;
@@ -24,7 +24,7 @@ use crate::search::Search;
 use crate::tables::{Tables, fresh_tables};
 use crate::turn::turn_to;
 use node_ids::{SplitNo, WorkerNo};
-use price_certificate::Prices;
+use price_certificate::{PlacePrices, Prices};
 use std::alloc::{AllocError, Global};
 use std::marker::Model;
 use tree_flow::Place;
@@ -76,7 +76,7 @@ impl Engine {
             → place_of (state_in engine) s ≡ Unshipped) }
     {
         let fixed = fixed_parts(alloc, &problem)?;
-        let tables = fresh_tables(alloc, &problem)?;
+        let tables = fresh_tables(alloc, &problem, fixed.reward, PlacePrices::free(alloc))?;
         let spare = Spare::new(alloc, problem.tree())?;
         Ok(Engine {
             problem,
@@ -133,7 +133,7 @@ impl Engine {
         if self.settled {
             return Ok(());
         }
-        ship_rest(alloc, &self.problem, &self.fixed, &mut self.tables)?;
+        settle(alloc, &self.problem, &self.fixed, &mut self.tables)?;
         self.settled = true;
         Ok(())
     }

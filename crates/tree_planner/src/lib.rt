@@ -37,5 +37,5 @@ mod tables;
 mod tree_nodes;
 mod turn;
 
-pub use engine::{Found, plan};
+pub use engine::{Found, plan, plan_places};
 pub use kept::Engine;

@@ -9,8 +9,8 @@ ghost use Rattle.tree_planner.specs.Engine.{IsFixed, IsStanding, IsStandingBut};
 ghost use Rattle.tree_planner.specs.Events.{slot_less};
 ghost use Rattle.tree_planner.specs.View.{state_of};
 
-use crate::engine::{Fixed, ship_rest};
-use crate::events::{remove_slot, take_off};
+use crate::engine::Fixed;
+use crate::events::{remove_slot, settle, take_off};
 use crate::follow::{stood_at, take_slot};
 use crate::hand_down::all_starts;
 use crate::refill::sink_to;
@@ -81,7 +81,7 @@ fn empty_any_slot(
     ensures hole { OnOk result (IsStandingBut problem.now tables.new (Some (Worker worker))) }
     ensures err { OnErr result (IsStanding problem.now tables.new) }
 {
-    ship_rest(alloc, problem, fixed, tables)?;
+    settle(alloc, problem, fixed, tables)?;
     let starts = all_starts(alloc, problem, &fixed.children, tables)?;
     if tables.free[worker.index()] > 0 {
         empty_free_slot(problem, tables, worker);

@@ -16,8 +16,8 @@ ghost use Rattle.tree_planner.specs.Searching.{IsLeaving, IsOut, IsOutBy, IsOver
 use crate::lows::{Low, Spared, is_spared, nothing_but};
 use crate::reached::FAR;
 use crate::search::{
-    Goal, Ground, Search, Step, cost_at, cost_below, end_cost, ends_of, is_free, is_inner,
-    nodes_below,
+    Goal, Ground, Search, Step, cost_at, cost_below, end_cost, ends_of, is_inner, nodes_below,
+    rest_of,
 };
 use crate::split_ends::{Ends, Group, is_left};
 use crate::tree_nodes::{is_same, next_above};
@@ -186,7 +186,7 @@ fn least_elsewhere(ground: &Ground<'_>, split: u32, spared: Spared) -> u64
     requires ground { IsGround ground.now }
     requires split { split < length (wave_of ground.now).splits }
     ensures least { IsLeastBut (wave_of ground.now) (state_at ground.now) split spared result }
-    ensures most { result ≤ 2 ^ 54 }
+    ensures most { result ≤ 2 ^ 60 }
 {
     let mut least = FAR;
     let ends = ends_of(ground, split);
@@ -389,8 +389,8 @@ fn over_to(ground: &Ground<'_>, search: &mut Search, leaving: Leaving, other: En
 {
     let distance = leaving.far + cost_at(ground, leaving.split, other) - leaving.spent;
     if search.is_nearer(other.node, distance) {
-        let free = is_free(ground, other.node);
+        let rest = rest_of(ground, other.node);
         let step = Step::Over(leaving.split, other.level);
-        search.reach(other.node, distance, step, free);
+        search.reach(other.node, distance, step, rest);
     }
 }

@@ -1,7 +1,7 @@
 //! Prices read off the depths.
 ghost use Rattle.std.specs.Prelude.{◌≡◌, ◌+◌, ◌-◌, ◌<◌, ◌≤◌, ℕ, All, IfOk, IfSome, length, slice_index, unwrap_or};
 ghost use Rattle.wave_problem.specs.Assignment.{pairs_of};
-ghost use Rattle.wave_problem.specs.Wave.{cost, reward, IsUsable};
+ghost use Rattle.wave_problem.specs.Wave.{cost, IsUsable};
 ghost use Rattle.tree_flow.specs.Nodes.{node_above};
 ghost use Rattle.tree_flow.specs.Settled.{deepest_above, ArePrices};
 ghost use Rattle.tree_planner.specs.Priced.{AreWorkerPrices, IsSplitPrice, IsWorkerPrice};
@@ -16,7 +16,7 @@ use std::alloc::{AllocError, Global};
 use wave_problem::Problem;
 
 /// The price of a worker's slots is the greatest depth above it, where it lives and has some; that of a
-/// split that starts is what this and its cost leave of the reward, and that of any other 0.
+/// split that starts is what this and its cost leave of a start's worth, and that of any other 0.
 pub fn prices_of(
     alloc: Global,
     problem: &Problem,
@@ -24,7 +24,7 @@ pub fn prices_of(
     tables: &Tables,
     starts: &Starts,
 ) -> Result<Prices, AllocError>
-    requires worth { worth ≡ reward problem.now }
+    requires worth { worth ≡ (state_of tables.now).terms.worth }
     requires tables { AreTables problem.now tables.now }
     requires splits { length starts.now.each.items ≡ length problem.now.splits }
     requires workers { All (λ start. IfSome start (λ w. w < length problem.now.workers))
@@ -84,7 +84,6 @@ fn split_prices(
     starts: &Starts,
     workers: &[u64],
 ) -> Result<Vec<u64>, AllocError>
-    requires worth { worth ≡ reward problem.now }
     requires splits { length starts.now.each.items ≡ length problem.now.splits }
     requires known { All (λ start. IfSome start (λ w. w < length problem.now.workers))
         starts.now.each.items }
@@ -92,7 +91,7 @@ fn split_prices(
     requires workers { length workers.now ≡ length problem.now.workers }
     ensures size { IfOk result (λ prices. length prices.items ≡ length problem.now.splits) }
     ensures prices { IfOk result (λ prices. (s : ℕ)
-        → IsSplitPrice problem.now starts.now.each.items workers.now s (slice_index prices.items s)) }
+        → IsSplitPrice problem.now worth starts.now.each.items workers.now s (slice_index prices.items s)) }
 {
     let mut prices = vec![in alloc; 0; problem.splits()]?;
     for pair in &starts.pairs {

@@ -11,7 +11,7 @@ use std::alloc::{AllocError, Global};
 use tree_flow::{NodeTable, TreeNode};
 
 /// A distance that is farther than any way goes.
-pub const FAR: u64 = 18_014_398_509_481_984;
+pub const FAR: u64 = 1_152_921_504_606_846_976;
 
 /// How many places of the row make a block. To find the nearest node, a search reads the floor of each block and
 /// then the nodes of one block or a few. A tree of 32,768 workers has about a thousand blocks of 32. Their floors
@@ -77,8 +77,8 @@ impl Reached {
 
     // Adds a node at this distance. The first of a block makes its floor anew.
     fn add(&mut self, node: TreeNode, distance: u64)
-        requires { HasRoom self.old node (2 ^ 54) }
-        ensures { IsNoted self.old self.new node (2 ^ 54) distance }
+        requires { HasRoom self.old node (2 ^ 60) }
+        ensures { IsNoted self.old self.new node (2 ^ 60) distance }
     {
         let place = self.count;
         let block = place / BLOCK;

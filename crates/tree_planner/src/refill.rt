@@ -1,6 +1,5 @@
 //! A hole moved along the way that a search back found, until it is filled.
 ghost use Rattle.std.specs.Prelude.{◌≡◌, ◌≢◌, ◌+◌, ◌^◌, ◌<◌, ◌≤◌, ℕ, true, false, IfOk, Option, Some, length};
-ghost use Rattle.wave_problem.specs.Wave.{reward};
 ghost use Rattle.tree_flow.specs.declared.nodes.Place.TheVariants.{Stands};
 ghost use Rattle.tree_flow.specs.declared.nodes.TreeNode.{TreeNode};
 ghost use Rattle.tree_flow.specs.declared.nodes.TreeNode.TheVariants.{Cluster, Worker};
@@ -136,9 +135,8 @@ fn higher_at(hollow: &Hollow<'_>, search: &SearchBack, node: TreeNode) -> u64
 // Moves the hole along the way that a search back found, and fills it where the way ends.
 fn follow(problem: &Problem, fixed: &Fixed, tables: &mut Tables, search: &SearchBack)
     requires fixed { IsFixed problem.now fixed.now }
-    requires tables { AreTables problem.now tables.old }
+    requires standing { IsStandingBut problem.now tables.old (Some search.now.hole) }
     requires how { IsOver problem.now.tree search.now.how }
-    requires low { (v : TreeNode) → at_node tables.old.depth v ≤ reward problem.now }
     requires ready { IsReady problem.now (state_of tables.old) search.now }
     ensures standing { IsStanding problem.now tables.new }
     ensures unshipped { AreAllSame (state_of tables.old) (state_of tables.new) }

@@ -9,6 +9,7 @@ use crate::engine::{Fixed, fixed_parts};
 use crate::going::all_lines;
 use crate::tables::{Tables, fresh_tables};
 use node_ids::{SplitNo, WorkerNo};
+use price_certificate::PlacePrices;
 use std::alloc::{AllocError, Global};
 use wave_problem::{Problem, WorkerLine};
 
@@ -99,7 +100,7 @@ fn begin_again(
     ensures err_tables { OnErr result (tables.new ≡ tables.old) }
 {
     let parts = fixed_parts(alloc, problem)?;
-    let fresh = fresh_tables(alloc, problem)?;
+    let fresh = fresh_tables(alloc, problem, parts.reward, PlacePrices::free(alloc))?;
     *fixed = parts;
     *tables = fresh;
     Ok(())

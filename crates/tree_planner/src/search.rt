@@ -2,7 +2,7 @@
 ghost use Rattle.std.specs.Prelude.{◌≡◌, ◌≢◌, ◌+◌, ◌*◌, ◌/◌, ◌<◌, ◌≤◌, ◌^◌, ◌↔◌, min, ℕ, length, IfOk};
 ghost use Rattle.std.specs.Prelude.{IsTrue, All, Contains, MatchOption};
 ghost use Rattle.wave_problem.specs.declared.TheConstants.{MAX_BYTES};
-ghost use Rattle.wave_problem.specs.Wave.{reward, split_at};
+ghost use Rattle.wave_problem.specs.Wave.{split_at};
 ghost use Rattle.tree_flow.specs.declared.nodes.End.{End};
 ghost use Rattle.tree_flow.specs.declared.nodes.Place.TheVariants.{Stands};
 ghost use Rattle.tree_flow.specs.declared.nodes.TreeNode.{TreeNode};
@@ -20,9 +20,11 @@ ghost use Rattle.tree_planner.specs.Reaching.{HasRoom};
 ghost use Rattle.tree_planner.specs.Searching.{place_at, reached_at, AreFloorsNew, HasReached, HasTables};
 ghost use Rattle.tree_planner.specs.Searching.{IsBlank, IsCandidate};
 ghost use Rattle.tree_planner.specs.Searching.{AreOf, IsCovered, IsLeaving, IsOut, IsOutBy};
+ghost use Rattle.tree_planner.specs.Searching.{next_price, worth_at, IsRest};
+ghost use Rattle.price_certificate.specs.declared.TheConstants.{MAX_PLACE_PRICE};
 ghost use Rattle.tree_planner.specs.Searching.{LeadsTo, IsNearest, IsStartedAt, Settles, IsDown};
 ghost use Rattle.tree_planner.specs.Searching.{GoesAllOver, IsOverTo};
-ghost use Rattle.tree_flow.specs.Table.{HasNode, IsSized};
+ghost use Rattle.tree_flow.specs.Table.{at_node, HasNode, IsSized};
 ghost use Rattle.tree_planner.specs.Lows.{low_at, no_low, AreLow, IsLow};
 
 use crate::children::Children;
@@ -31,9 +33,9 @@ use crate::lows::{Low, Lows};
 use crate::over::hand_over;
 use crate::reached::{BLOCK, FAR, Reached};
 use crate::split_ends::{AllEnds, Ends, Group, is_left};
-use crate::tables::Tables;
+use crate::tables::{Tables, slots_of};
 use crate::tree_nodes::{is_same, parent};
-use node_ids::SplitNo;
+use node_ids::{SplitNo, WorkerNo};
 use rack_tree::RackTree;
 use std::alloc::{AllocError, Global};
 use tree_flow::{End, NodeTable, Place, TreeNode};
@@ -142,7 +144,7 @@ impl Search {
     pub fn clear(&mut self, tree: &RackTree)
         requires tables { HasTables tree.now self.old }
         requires reached { HasReached tree.now self.old }
-        requires short { self.old.limit < 2 ^ 54 }
+        requires short { self.old.limit < 2 ^ 60 }
         ensures blank { IsBlank tree.now (length self.old.reached.nodes.items) self.new }
         ensures lows { self.new.lows ≡ self.old.lows }
     {
@@ -180,16 +182,18 @@ impl Search {
         distance >= self.bound.min(self.far.get(node)) + less
     }
 
-    /// Comes to a node, where that is nearer. Where a slot is free under it, a way ends there.
-    pub fn reach(&mut self, node: TreeNode, distance: u64, step: Step, free: bool)
+    /// Comes to a node, where that is nearer. A way may end in a free slot that is so much farther.
+    pub fn reach(&mut self, node: TreeNode, distance: u64, step: Step, rest: u64)
         requires far { HasNode self.old.far node }
         requires how { HasNode self.old.how node }
         requires room { HasRoom self.old.reached node (far_at self.old node) }
         requires beyond { (u : TreeNode) → 0 < order_at self.old u → far_at self.old u ≤ distance }
+        requires rest { rest ≤ 2 ^ 60 }
+        requires bound { self.old.bound ≤ 2 ^ 60 }
         ensures improves { Improves self.old self.new }
         ensures near { min self.new.bound (far_at self.new node) ≤ distance }
         ensures kept { (g : Ground) → IsGround g → IsSearching g self.old
-            → (IsTrue free ↔ (0 < sum_under (wave_of g) node (state_at g).free)) → IsNode (wave_of g).tree node
+            → IsRest g node rest → IsNode (wave_of g).tree node
             → (order_at self.old node ≡ 0 → LeadsTo g self.old node distance step) → IsSearching g self.new }
     {
         let far = self.far.get(node);
@@ -197,8 +201,8 @@ impl Search {
             self.reached.note(node, far, distance);
             self.far.set(node, distance);
             self.how.set(node, step);
-            if free {
-                self.bound = distance;
+            if distance + rest < self.bound {
+                self.bound = distance + rest;
                 self.goal = Goal::Slot(node);
             }
         }
@@ -256,7 +260,7 @@ fn depth_of(ground: &Ground<'_>, node: TreeNode) -> u64
     requires ground { IsGround ground.now }
     requires known { IsNode (wave_of ground.now).tree node }
     ensures depth { result ≡ (state_at ground.now).depth node }
-    ensures most { result ≤ reward (wave_of ground.now) }
+    ensures most { result ≤ worth_at ground.now }
 {
     ground.tables.depth.get(node)
 }
@@ -279,13 +283,51 @@ fn slots_at(ground: &Ground<'_>, node: TreeNode) -> u64
     ground.slots.get(node)
 }
 
-/// Whether a slot is free under a node.
-pub fn is_free(ground: &Ground<'_>, node: TreeNode) -> bool
+/// How far a free slot is from a node. Where places are free, that of any worker under the node is as near; else
+/// only a worker's own are told of, as a search comes to the workers by itself.
+pub fn rest_of(ground: &Ground<'_>, node: TreeNode) -> u64
     requires ground { IsGround ground.now }
     requires known { IsNode (wave_of ground.now).tree node }
-    ensures { IsTrue result ↔ (0 < sum_under (wave_of ground.now) node (state_at ground.now).free) }
+    ensures rest { IsRest ground.now node result }
+    ensures most { result ≤ 2 ^ 60 }
 {
-    ground.tables.below.get(node) > 0
+    if ground.tables.below.get(node) == 0 {
+        return FAR;
+    }
+    if ground.tables.prices.is_free() {
+        return 0;
+    }
+    own_rest(ground, node)
+}
+
+// The same where places have prices and a slot is free under the node. Out of line, it costs nothing where places
+// are free.
+#[cold]
+#[inline(never)]
+fn own_rest(ground: &Ground<'_>, node: TreeNode) -> u64
+    requires ground { IsGround ground.now }
+    requires known { IsNode (wave_of ground.now).tree node }
+    requires some { 0 < at_node ground.now.tables.now.below node }
+    ensures rest { IsRest ground.now node result }
+    ensures most { result ≤ 2 ^ 60 }
+{
+    match node {
+        TreeNode::Worker(worker) => next_price(ground, worker) - ground.tables.depth.get(node),
+        _ => FAR,
+    }
+}
+
+// What the next place of a worker costs, of which a slot is free.
+fn next_price(ground: &Ground<'_>, worker: u16) -> u64
+    requires ground { IsGround ground.now }
+    requires known { worker < length (wave_of ground.now).workers }
+    ensures price { result ≡ next_price ground.now worker }
+    ensures most { result ≤ MAX_PLACE_PRICE }
+{
+    let number = WorkerNo::new(worker);
+    let free = ground.tables.free[worker as usize];
+    let taken = slots_of(ground.problem, number).saturating_sub(free);
+    ground.tables.prices.price(number, taken as usize)
 }
 
 // The node from which a node hangs.
@@ -345,7 +387,7 @@ pub fn cost_at(ground: &Ground<'_>, split: u32, end: End) -> u64
     requires ground { IsGround ground.now }
     requires is_end { IsEnd (wave_of ground.now) split end }
     ensures cost { result ≡ reach_cost (wave_of ground.now) (state_at ground.now) split end }
-    ensures most { result ≤ 6 * MAX_BYTES + reward (wave_of ground.now) }
+    ensures most { result ≤ 6 * MAX_BYTES + worth_at ground.now }
 {
     let steps = 2 * u64::from(end.level);
     ground.problem.bytes(SplitNo::new(split)) * steps + depth_of(ground, end.node)
@@ -357,7 +399,7 @@ pub fn cost_below(ground: &Ground<'_>, split: u32, end: End) -> u64
     requires split { split < length (wave_of ground.now).splits }
     requires known { IsNode (wave_of ground.now).tree end.node }
     ensures cost { result ≡ reach_cost (wave_of ground.now) (state_at ground.now) split end }
-    ensures most { result ≤ 510 * MAX_BYTES + reward (wave_of ground.now) }
+    ensures most { result ≤ 510 * MAX_BYTES + worth_at ground.now }
 {
     end_cost(ground, split, end.level) + depth_of(ground, end.node)
 }
@@ -385,7 +427,7 @@ fn begin(ground: &Ground<'_>, search: &mut Search, split: u32, least: u64)
     requires ground { IsGround ground.now }
     requires blank { IsBlank (wave_of ground.now).tree (length ground.now.nodes.now) search.old }
     requires split { split < length (wave_of ground.now).splits }
-    requires least { least ≤ reward (wave_of ground.now) }
+    requires least { least ≤ worth_at ground.now }
     requires low { AreLow (wave_of ground.now) (state_at ground.now) search.old.lows }
     ensures split { search.new.split ≡ split }
     ensures least { search.new.least ≡ least }
@@ -515,8 +557,8 @@ fn start_at(ground: &Ground<'_>, search: &mut Search, end: End)
     ensures started { IsStartedAt ground.now search.new end }
 {
     let distance = cost_at(ground, search.split, end) - search.least;
-    let free = is_free(ground, end.node);
-    search.reach(end.node, distance, Step::Start(end.level), free);
+    let rest = rest_of(ground, end.node);
+    search.reach(end.node, distance, Step::Start(end.level), rest);
 }
 
 // Looks from nodes, the nearest first, until none is nearer than the bound that was not looked from.
@@ -555,7 +597,9 @@ fn settle_goal(ground: &Ground<'_>, search: &mut Search)
 {
     let _ = ground;
     if let Goal::Slot(node) = search.goal {
-        search.settle(node);
+        if search.order.get(node) == 0 {
+            search.settle(node);
+        }
     }
 }
 
@@ -588,7 +632,7 @@ fn nearest_in(ground: &Ground<'_>, search: &Search, block: usize) -> Candidate
     requires searching { IsSearching ground.now search.now }
     requires block { block * 32 < search.now.reached.count }
     ensures fresh { IsCandidate search.now result }
-    ensures least { (v : TreeNode) → far_at search.now v < 2 ^ 54 → order_at search.now v ≡ 0
+    ensures least { (v : TreeNode) → far_at search.now v < 2 ^ 60 → order_at search.now v ≡ 0
         → place_at search.now v / 32 ≡ block → result.far ≤ far_at search.now v }
 {
     let _ = ground;
@@ -657,8 +701,8 @@ fn look_up(ground: &Ground<'_>, search: &mut Search, node: TreeNode)
     if flow_of(ground, node) > 0 {
         let up = above(ground, node);
         let distance = search.far_of(node) + depth_of(ground, up) - depth_of(ground, node);
-        let free = is_free(ground, up);
-        search.reach(up, distance, Step::Up(node), free);
+        let rest = rest_of(ground, up);
+        search.reach(up, distance, Step::Up(node), rest);
     }
 }
 
@@ -689,8 +733,8 @@ fn step_down(ground: &Ground<'_>, search: &mut Search, node: TreeNode, below: Tr
 {
     if flow_of(ground, below) < slots_at(ground, below) {
         let distance = search.far_of(node) + depth_of(ground, below) - depth_of(ground, node);
-        let free = is_free(ground, below);
-        search.reach(below, distance, Step::Down, free);
+        let rest = rest_of(ground, below);
+        search.reach(below, distance, Step::Down, rest);
     }
 }
 

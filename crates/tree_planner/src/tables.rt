@@ -5,6 +5,8 @@ ghost use Rattle.wave_problem.specs.declared.TheConstants.{MAX_SLOTS};
 ghost use Rattle.tree_flow.specs.declared.nodes.TreeNode.{TreeNode};
 ghost use Rattle.tree_flow.specs.declared.nodes.TreeNode.TheVariants.{Worker};
 ghost use Rattle.tree_flow.specs.Nodes.{is_under};
+ghost use Rattle.price_certificate.specs.Places.{full_reward};
+ghost use Rattle.tree_flow.specs.Settled.{AreTermsOf};
 ghost use Rattle.tree_flow.specs.Slots.{IsFresh};
 ghost use Rattle.tree_flow.specs.State.{slots_of, sum_under};
 ghost use Rattle.tree_flow.specs.Table.{at_node, HasNode, IsOver, IsSized};
@@ -13,13 +15,14 @@ ghost use Rattle.tree_planner.specs.View.{state_of, AreTables};
 use crate::cursors::Cursors;
 use crate::lists::Standing;
 use node_ids::WorkerNo;
+use price_certificate::PlacePrices;
 use std::alloc::{AllocError, Global};
 use tree_flow::{NodeTable, Place, TreeNode};
 use wave_problem::Problem;
 
 /// Where each split is, how many units come to each node from its parent, how deep each node lies, how many
 /// slots of each worker are free, and how many under each node; lists of the splits that stand at each node;
-/// and where free slots are looked for.
+/// where free slots are looked for; and what a start is worth, and what the places of the workers cost.
 pub struct Tables {
     pub places: Vec<Place>,
     pub flow: NodeTable<u64>,
@@ -28,6 +31,8 @@ pub struct Tables {
     pub below: NodeTable<u64>,
     pub standing: Standing,
     pub cursors: Cursors,
+    pub worth: u64,
+    pub prices: PlacePrices,
 }
 
 // (one call wherever it is dropped)
@@ -41,15 +46,26 @@ impl Drop for Tables {
             below: _,
             standing: _,
             cursors: _,
+            worth: _,
+            prices: _,
         } = self;
     }
 }
 
-/// Tables in which no split is shipped, and all slots are free.
-pub fn fresh_tables(alloc: Global, problem: &Problem) -> Result<Tables, AllocError>
+/// Tables in which no split is shipped, and all slots are free, where a start is worth so much and places have
+/// these prices.
+pub fn fresh_tables(
+    alloc: Global,
+    problem: &Problem,
+    worth: u64,
+    prices: PlacePrices,
+) -> Result<Tables, AllocError>
+    requires worth { worth ≡ full_reward prices problem.now }
+    ensures terms { IfOk result (λ t. AreTermsOf problem.now prices (state_of t).terms) }
     ensures tables { IfOk result (λ t. AreTables problem.now t) }
     ensures fresh { IfOk result (λ t. IsFresh problem.now (state_of t)) }
 {
+    prices.limits();
     let flow = NodeTable::new(alloc, problem.tree(), 0)?;
     let depth = NodeTable::new(alloc, problem.tree(), 0)?;
     let free = free_slots(alloc, problem)?;
@@ -65,6 +81,8 @@ pub fn fresh_tables(alloc: Global, problem: &Problem) -> Result<Tables, AllocErr
         below,
         standing,
         cursors,
+        worth,
+        prices,
     })
 }
 

@@ -1,11 +1,10 @@
-use Rattle.std.proofs.Common.{◌≡◌, ◌∙◌, ◌+◌, ℕ, refl, sym, ap, subst, arith}
+use Rattle.std.proofs.Common.{◌≡◌, ◌∙◌, ◌+◌, ℕ, refl, sym, ap, subst, inl, inr, arith}
 use Rattle.tree_flow.specs.Moves.{IsFlowSet}
 use Rattle.tree_flow.specs.Nodes.{is_under, parent, IsNode}
 use Rattle.tree_flow.specs.State.{IsKeptBut}
 use Rattle.tree_flow.specs.declared.nodes.TreeNode.{TreeNode}
 use Rattle.tree_flow.specs.Table.{at_node}
-use Rattle.tree_flow.proofs.Given.{under_parent}
-use Rattle.tree_flow.proofs.Moved.{under_own}
+use Rattle.tree_flow.proofs.Moved.{same_or_not}
 use Rattle.tree_flow.proofs.Under.{slots-most}
 use Rattle.std.specs.Prelude.{Some, ◌≢◌}
 use Rattle.tree_planner.specs.View.{state_of}
@@ -39,10 +38,20 @@ loop-node-preserved c =
           (subst (λ n. IsFlowSet now new hole n) (ap (λ (n : ℕ). n + 1) (c.get-units.ensures 0)) c.set_flow.ensures.set));
       known = subst (λ t. IsNode t c.parent-hole.result) c.tree.ensures.tree c.parent-hole.ensures.known;
       under = ap (λ v. is_under wave.tree v node) up ∙ under_next wave now new hole node i.under other;
-      flat = λ u p. same u ∙ i.flat u (lower_under wave.tree hole u off (sym (ap (λ v. is_under wave.tree v u) up) ∙ p));
-      above = ap (λ v. is_under wave.tree c.args.from v) up ∙ under_parent wave.tree c.args.from hole i.above;
-      flows = λ v off. c.set_flow.ensures.set.others v
-          (λ e. off (ap (λ v. is_under wave.tree c.args.from v) e ∙ i.above)) ∙ i.flows v off;
+      flat = λ u p q. same u
+          ∙ i.flat u (lower_under wave.tree hole u off (sym (ap (λ v. is_under wave.tree v u) up) ∙ p)) q
+          ∙ sym (same node);
+      flows = λ v. elim (same_or_not v hole) [
+        | inl e ↦
+            (let here = c.set_flow.ensures.set.here in
+            let is = c.get-units.ensures 0 in
+            let a = ap new.flow e in
+            let b = ap now.flow e in
+            let most = i.flows v in
+            omega arith)
+        | inr n ↦ (let same = c.set_flow.ensures.set.others v n in let most = i.flows v in omega arith)
+      ];
+      terms = c.set_flow.ensures.terms ∙ i.terms;
       places = c.set_flow.ensures.set.places ∙ i.places;
       depth = c.set_flow.ensures.depth ∙ i.depth;
     }
@@ -54,8 +63,8 @@ loop-node-init c = record {
   known = c.requires.known;
   under = c.requires.under;
   flat = c.requires.flat;
-  above = under_own c.args.problem.now.tree c.args.from;
-  flows = λ v off. refl;
+  flows = λ v. omega arith;
+  terms = refl;
   places = refl;
   depth = refl;
 }

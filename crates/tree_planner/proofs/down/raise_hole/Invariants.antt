@@ -1,4 +1,4 @@
-use Rattle.std.proofs.Common.{◌≡◌, true, Some}
+use Rattle.std.proofs.Common.{◌≡◌, ◌≤◌, true, Some}
 use Rattle.tree_flow.specs.declared.nodes.TreeNode.{TreeNode}
 use Rattle.tree_flow.specs.Nodes.{is_under, IsNode}
 use Rattle.tree_flow.specs.State.{IsKeptBut}
@@ -13,10 +13,10 @@ invariant-loop-node l = record {
   kept : IsKeptBut l.problem (state_of l.tables) (Some l.hole);
   known : IsNode l.problem.tree l.hole;
   under : is_under l.problem.tree l.hole l.node ≡ true;
-  flat : (u : TreeNode) → is_under l.problem.tree l.hole u ≡ true → (state_of l.tables).depth u ≡ 0;
-  above : is_under l.problem.tree l.fn.from l.hole ≡ true;
-  flows : (c : TreeNode) → (is_under l.problem.tree l.fn.from c ≡ true → ⊥)
-      → (state_of l.tables).flow c ≡ (state_of l.fn.tables).flow c;
+  flat : (u : TreeNode) → is_under l.problem.tree l.hole u ≡ true → is_under l.problem.tree u l.node ≡ true
+      → (state_of l.tables).depth u ≡ (state_of l.tables).depth l.node;
+  flows : (c : TreeNode) → (state_of l.fn.tables).flow c ≤ (state_of l.tables).flow c;
+  terms : (state_of l.tables).terms ≡ (state_of l.fn.tables).terms;
   places : (state_of l.tables).places ≡ (state_of l.fn.tables).places;
   depth : l.tables.depth ≡ l.fn.tables.depth;
 }

@@ -1,5 +1,5 @@
 use Rattle.std.proofs.Common.{length, ap, refl, subst, sym, ◌∙◌, arith}
-use Rattle.wave_problem.specs.Wave.{reward}
+use Rattle.tree_planner.specs.declared.tables.Tables.{Tables}
 use Rattle.tree_planner.specs.Engine.{with_depth}
 use Rattle.tree_planner.specs.Lows.{AreLow}
 use Rattle.tree_planner.specs.Searching.{state_at, wave_of, IsBlank}
@@ -19,11 +19,11 @@ returns-clause-ready c = λ depth deeper.
     subst (λ w. IsReady w (with_depth (state_of c.args.tables.now) depth) search) p
     (subst (λ t. IsReady (wave_of g) (with_depth (state_of t) depth) search) t
     (ready g c.ground_of.ensures.ground search c.find_way.ensures.searched (with_depth (state_at g) depth) refl refl
-    refl
+    refl refl
     (λ v.
     (let deep = deeper v in
-    let r = ap reward p in
-    let d = ap (λ t. at_node t.depth v) t in
+    let worth = ap (λ (t : Tables). t.worth) t in
+    let d = ap (λ (t : Tables). at_node t.depth v) t in
     omega arith))
     (ap (λ s. place_of (state_at g) s) c.find_way.ensures.split
     ∙ ap (λ t. place_of (state_of t) c.args.split) t ∙ c.requires.unshipped))))

@@ -13,26 +13,26 @@ returns-clause-sizes c = record {
 }
 
 pub returns-clause-certifies : goal.returns-clause-certifies
-returns-clause-certifies c =
-    let wave = c.args.problem.now in
+returns-clause-certifies c = λ places terms.
+    (let wave = c.args.problem.now in
     let state = state_of c.args.tables.now in
     let plan = c.from_starts.result in
-    engine_certifies wave state plan.starts c.in_ok-prices.prices c.limits.ensures.problem.near c.requires.fixed.known
-    c.requires.standing.kept (subst (λ xs. IsHandedDown wave state xs) (sym c.from_starts.ensures.starts)
-    c.in_ok-starts.ensures.down)
+    engine_certifies wave places state plan.starts c.in_ok-prices.prices terms c.limits.ensures.problem.near
+    c.requires.fixed.known c.requires.held.kept
+    (subst (λ xs. IsHandedDown wave state xs) (sym c.from_starts.ensures.starts) c.in_ok-starts.ensures.down)
     (subst (λ xs. ArePrices wave state xs c.in_ok-prices.prices) (sym c.from_starts.ensures.starts)
-    c.in_ok-prices.ensures.prices)
+    c.in_ok-prices.ensures.prices))
 
 pub returns-clause-best : goal.returns-clause-best
-returns-clause-best c =
-    let wave = c.args.problem.now in
+returns-clause-best c = λ places fit terms.
+    (let wave = c.args.problem.now in
     let state = state_of c.args.tables.now in
     let plan = c.from_starts.result in
-    engine_is_best wave state plan.starts c.limits.ensures.problem.near c.requires.fixed.known
-    c.requires.standing.kept (subst (λ xs. IsHandedDown wave state xs) (sym c.from_starts.ensures.starts)
-    c.in_ok-starts.ensures.down) c.in_ok-prices.prices
+    engine_is_best wave places state plan.starts c.in_ok-prices.prices fit terms c.limits.ensures.problem.near
+    c.requires.fixed.known c.requires.held.kept
+    (subst (λ xs. IsHandedDown wave state xs) (sym c.from_starts.ensures.starts) c.in_ok-starts.ensures.down)
     (subst (λ xs. ArePrices wave state xs c.in_ok-prices.prices) (sym c.from_starts.ensures.starts)
-    c.in_ok-prices.ensures.prices)
+    c.in_ok-prices.ensures.prices))
 
 pub returns-clause-idle : goal.returns-clause-idle
 returns-clause-idle c = c.in_ok-prices.ensures.prices.unusable

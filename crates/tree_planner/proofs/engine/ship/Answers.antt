@@ -4,21 +4,18 @@ use Rattle.tree_flow.proofs.Moved.{lets_wait}
 use Rattle.tree_planner.specs.Choosing.{IsChoice}
 use Rattle.tree_planner.specs.View.{state_of}
 use Rattle.tree_planner.proofs.Lowered.{deeper_low}
+use Rattle.tree_planner.proofs.Still.{held_on}
 use Rattle.tree_planner.proofs.engine.ship.Goals as goal
 
-pub returns-in-Wait-clause-standing : goal.returns-in-Wait-clause-standing
-returns-in-Wait-clause-standing c =
+pub returns-in-Wait-clause-held : goal.returns-in-Wait-clause-held
+returns-in-Wait-clause-held c =
     let wave = c.args.problem.now in
     let old = state_of c.args.tables.now in
-    record {
-      tables = c.place.ensures.tables;
-      low = λ v.
-          (let depth = ap (λ t. at_node t v) c.place.ensures.depth in
-          let low = c.requires.standing.low v in
-          omega arith);
-      kept = lets_wait wave old (state_of c.place.new.tables) c.args.split c.requires.standing.kept c.requires.unshipped
-          (subst (λ r. IsChoice wave old c.args.split r) c.in-Wait.is c.choice.ensures) c.place.ensures.placed;
-    }
+    held_on wave c.args.tables.now c.place.new.tables c.requires.held c.place.ensures.terms c.place.ensures.tables
+    (λ v.
+    (let depth = ap (λ t. at_node t v) c.place.ensures.depth in let low = c.requires.held.low v in omega arith))
+    (lets_wait wave old (state_of c.place.new.tables) c.args.split c.requires.held.kept c.requires.unshipped
+    (subst (λ r. IsChoice wave old c.args.split r) c.in-Wait.is c.choice.ensures) c.place.ensures.placed)
 
 pub returns-in-Wait-clause-low : goal.returns-in-Wait-clause-low
 returns-in-Wait-clause-low c =

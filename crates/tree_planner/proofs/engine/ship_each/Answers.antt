@@ -1,4 +1,4 @@
-use Rattle.std.proofs.Common.{ℕ, arith, inl, inr, rules, subst, sym}
+use Rattle.std.proofs.Common.{ℕ, ◌∙◌, arith, inl, inr, refl, rules, subst, sym}
 use Rattle.std.specs.Prelude.{◌≢◌}
 use Rattle.std.proofs.lemmas.Bool.{cases_eq}
 use Rattle.tree_flow.specs.declared.nodes.Place.TheVariants.{Unshipped}
@@ -9,7 +9,8 @@ use Rattle.tree_planner.proofs.engine.ship_each.Goals as goal
 
 pub loop-s-init : goal.loop-s-init
 loop-s-init c = record {
-  standing = c.requires.standing;
+  held = c.requires.held;
+  terms = refl;
   blank = search rules;
   low = none_low _ _ c.in_ok-search.search.lows c.in_ok-search.ensures.lows;
   shipped = λ k l. absurd (omega arith);
@@ -17,7 +18,8 @@ loop-s-init c = record {
 
 pub loop-s-preserved : goal.loop-s-preserved
 loop-s-preserved c = record {
-  standing = c.ship_once.ensures.standing;
+  held = c.ship_once.ensures.held;
+  terms = c.ship_once.ensures.terms ∙ c.loop-s.invariant.terms;
   blank = c.ship_once.ensures.blank;
   low = c.ship_once.ensures.low;
   shipped = λ k l. elim (cases_eq k c.loop-s.s) [

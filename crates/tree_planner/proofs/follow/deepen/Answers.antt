@@ -9,7 +9,7 @@ pub loop-k-init : goal.loop-k-init
 loop-k-init c = record {
   over = c.requires.over;
   low = c.requires.low;
-  deeper = first_deeper c.args.reward c.args.depth.now c.args.search.now;
+  deeper = first_deeper c.args.worth c.args.depth.now c.args.search.now;
 }
 
 pub deepened-deep-requires-clause-low : goal.deepened-deep-requires-clause-low
@@ -29,14 +29,14 @@ loop-k-preserved c =
     let here = c.set.ensures.here 0 in
     let deep = c.deepened-deep.ensures in
     let depth = c.get.ensures 0 in
-    let far = c.get-in-loop-k.ensures (2 ^ 54) in
+    let far = c.get-in-loop-k.ensures (2 ^ 60) in
     record {
       over = over_sized c.args.problem.now.tree now new i.over c.set.ensures.size;
       low = λ v. elim (same_or_not v node) [
         | inl e ↦ (let a = ap (at_node new) e in omega arith)
         | inr n ↦ (let same = c.set.ensures.others 0 v n in let low = i.low v in omega arith)
       ];
-      deeper = deeper_next c.args.problem.now.tree search c.requires.reached c.args.reward c.args.depth.now now new k node
+      deeper = deeper_next c.args.problem.now.tree search c.requires.reached c.args.worth c.args.depth.now now new k node
           c.at-node.ensures (omega arith) i.deeper (omega arith) (c.set.ensures.others 0);
     }
 
@@ -46,7 +46,7 @@ returns c =
     record {
       over = i.over;
       low = i.low;
-      deeper = all_deeper c.args.problem.now.tree c.args.search.now c.requires.reached c.args.reward c.args.depth.now
+      deeper = all_deeper c.args.problem.now.tree c.args.search.now c.requires.reached c.args.worth c.args.depth.now
           c.loop-k.depth c.requires.small c.requires.low c.requires.bound c.requires.limit
-          (subst (λ n. AreDeeperTo c.args.reward c.args.depth.now c.args.search.now c.loop-k.depth n) (omega arith) i.deeper);
+          (subst (λ n. AreDeeperTo c.args.worth c.args.depth.now c.args.search.now c.loop-k.depth n) (omega arith) i.deeper);
     }

@@ -7,6 +7,6 @@ use Rattle.tree_planner.proofs.follow.deepen.Given as goal
 abbrev pub invariant-loop-k : goal.invariant-loop-k
 invariant-loop-k l = record {
   over : IsOver l.problem.tree l.depth;
-  low : (v : TreeNode) → at_node l.depth v ≤ l.reward;
-  deeper : AreDeeperTo l.reward l.fn.depth l.search l.depth l.k;
+  low : (v : TreeNode) → at_node l.depth v ≤ l.worth;
+  deeper : AreDeeperTo l.worth l.fn.depth l.search l.depth l.k;
 }

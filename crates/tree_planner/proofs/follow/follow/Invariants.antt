@@ -7,6 +7,7 @@ use Rattle.tree_planner.proofs.follow.follow.Given as goal
 abbrev pub invariant-loop-hole : goal.invariant-loop-hole
 invariant-loop-hole l = record {
   depth : l.tables.depth ≡ l.fn.tables.depth;
+  terms : (state_of l.tables).terms ≡ (state_of l.fn.tables).terms;
   tables : AreTables l.problem l.tables;
   hole : MatchOption l.hole (IsShipped l.problem (state_of l.tables) l.search.split)
       (λ node. IsFollowing l.problem (state_of l.tables) l.search node);

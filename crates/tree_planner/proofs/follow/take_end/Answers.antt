@@ -35,11 +35,17 @@ take_below-requires-clause-some c =
 pub returns-in-Slot-clause-hole : goal.returns-in-Slot-clause-hole
 returns-in-Slot-clause-hole c =
     follow_slot c.args.problem.now (state_of c.args.tables.now) (state_of c.take_below.new.tables) c.args.search.now
-    c.requires.ready c.in-Slot.node c.in-Slot.is c.take_below.ensures.hole c.take_below.ensures.places
-    (ap (λ (t : NodeTable ℕ). (λ (v : TreeNode). at_node t v)) c.take_below.ensures.depth) c.take_below.ensures.flows
+    c.requires.ready c.in-Slot.node c.in-Slot.is c.take_below.ensures.hole c.take_below.ensures.terms c.take_below.ensures.places
+    (ap (λ (t : NodeTable ℕ). (λ (v : TreeNode). at_node t v)) c.take_below.ensures.depth)
+    c.take_below.ensures.flows
 
 pub returns-in-Off-clause-hole : goal.returns-in-Off-clause-hole
 returns-in-Off-clause-hole c =
     follow_off c.args.problem.now (state_of c.args.tables.now) (state_of c.place-in-Off.new.tables)
     c.args.search.now c.requires.ready c.in-Off.split c.stood_at-end.result c.in-Off.is c.stood_at-end.ensures
     c.place-in-Off.ensures.placed
+
+pub take_below-requires-clause-cheap : goal.take_below-requires-clause-cheap
+take_below-requires-clause-cheap c =
+    let old = state_of c.args.tables.now in
+    (goal_slot c.args.problem.now old old c.args.search.now c.requires.ready c.in-Slot.node c.in-Slot.is).cheap

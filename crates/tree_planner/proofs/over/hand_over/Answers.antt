@@ -1,10 +1,9 @@
 use Rattle.std.proofs.Common.{ℕ, ◌+◌, ◌≤◌, ◌∙◌, ap, arith, get_or, length, subst, sym}
 use borrow.Author.Count.{below_more}
-use Rattle.wave_problem.specs.Wave.{reward}
 use Rattle.tree_flow.specs.declared.nodes.End.{End}
 use Rattle.tree_planner.specs.Ends.{HasEnd, IsOf}
 use Rattle.tree_flow.specs.State.{reach_cost}
-use Rattle.tree_planner.specs.Searching.{far_at, state_at, wave_of, IsOutBy, IsOverTo}
+use Rattle.tree_planner.specs.Searching.{far_at, state_at, wave_of, worth_at, IsOutBy, IsOverTo}
 use Rattle.tree_planner.proofs.Improved.{at_kept, improves_trans, over_kept}
 use Rattle.tree_planner.proofs.Covered.{group_ends, leaving_kept}
 use Rattle.tree_planner.proofs.Grouped.{all_among, first}
@@ -133,7 +132,7 @@ returns-clause-over c =
       out = λ e stands is.
           (let same = stands_same (state_at g) c.args.split c.args.end e c.requires.stands stands in
           subst (λ e. search.bound + reach_cost (wave_of g) (state_at g) c.args.split e
-          ≤ far_at search e.node + reward (wave_of g)) same c.loop-group.invariant.out);
+          ≤ far_at search e.node + worth_at g) same c.loop-group.invariant.out);
     })
 
 pub returns-then-stays-clause-over : goal.returns-then-stays-clause-over
@@ -148,7 +147,7 @@ returns-then-stays-clause-over c =
       out = λ e stands is.
           (let same = stands_same (state_at g) c.args.split c.args.end e c.requires.stands stands in
           subst (λ e. search.bound + reach_cost (wave_of g) (state_at g) c.args.split e
-          ≤ far_at search e.node + reward (wave_of g)) same
+          ≤ far_at search e.node + worth_at g) same
           (let near = c.arrive.ensures.near in
           let worth = c.requires.ground.worth in
           let cost = c.cost_at-spent.ensures.cost in
@@ -172,7 +171,7 @@ returns-then-search-far-clause-over c =
       out = λ e stands is.
           (let same = stands_same (state_at g) c.args.split c.args.end e c.requires.stands stands in
           subst (λ e. search.bound + reach_cost (wave_of g) (state_at g) c.args.split e
-          ≤ far_at search e.node + reward (wave_of g)) same
+          ≤ far_at search e.node + worth_at g) same
           (let near = c.arrive.ensures.near in
           let worth = c.requires.ground.worth in
           let cost = c.cost_at-spent.ensures.cost in

@@ -12,7 +12,8 @@ overflow_add-distance c =
 
 pub returns-then-is_nearer-clause-searching : goal.returns-then-is_nearer-clause-searching
 returns-then-is_nearer-clause-searching c =
-    c.reach.ensures.kept c.args.ground.now c.requires.ground c.requires.searching c.is_free-free.ensures c.requires.is_end.known (λ none. record {
+    c.reach.ensures.kept c.args.ground.now c.requires.ground c.requires.searching
+    c.rest_of-rest.ensures.rest c.requires.is_end.known (λ none. record {
       from = c.args.leaving.end;
       stands = c.requires.leaving.stands;
       is_end = c.requires.is_end;

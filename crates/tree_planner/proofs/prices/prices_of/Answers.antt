@@ -1,6 +1,7 @@
 use Rattle.std.proofs.Common.{ℕ, ◌+◌, ◌-◌, ◌∙◌, List, ap, sym}
 use Rattle.std.specs.Prelude.{slice_index, unwrap_or}
-use Rattle.wave_problem.specs.Wave.{cost, reward}
+use Rattle.wave_problem.specs.Wave.{cost}
+use Rattle.price_certificate.specs.Certificate.{worker_price}
 use Rattle.tree_planner.proofs.prices.prices_of.Goals as goal
 
 pub returns-clause-prices : goal.returns-clause-prices
@@ -14,7 +15,8 @@ returns-clause-prices c =
       usable = λ w is. ap (λ (xs : List ℕ). slice_index xs w) workers ∙ (of_worker w).usable is;
       unusable = λ w is. ap (λ (xs : List ℕ). slice_index xs w) workers ∙ (of_worker w).unusable is;
       started = λ s w is. ap (λ (xs : List ℕ). slice_index xs s) splits ∙ (of_split s).started w is
-          ∙ ap (λ (xs : List ℕ). reward wave - (slice_index xs w + unwrap_or (cost wave s w) 0))
-          (c.deref.ensures.value ∙ sym workers);
+          ∙ ap (λ (xs : List ℕ). c.args.worth - (slice_index xs w + unwrap_or (cost wave s w) 0))
+          (c.deref.ensures.value ∙ sym workers)
+          ∙ ap (λ (n : ℕ). n - (worker_price c.from_lists.result w + unwrap_or (cost wave s w) 0)) c.requires.worth;
       unstarted = λ s is. ap (λ (xs : List ℕ). slice_index xs s) splits ∙ (of_split s).unstarted is;
     }

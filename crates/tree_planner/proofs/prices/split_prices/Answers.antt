@@ -1,8 +1,7 @@
-use Rattle.std.proofs.Common.{◌≡◌, ℕ, ◌+◌, ◌-◌, ◌<◌, ◌∙◌, List, length, get_or, ap, sym, subst, arith}
+use Rattle.std.proofs.Common.{◌≡◌, ℕ, ◌+◌, ◌<◌, ◌∙◌, List, length, get_or, ap, sym, subst, arith}
 use Rattle.std.proofs.lemmas.List.{get_or_default}
-use Rattle.std.specs.Prelude.{slice_index, slice_set, unwrap_or}
+use Rattle.std.specs.Prelude.{slice_index, slice_set}
 use Rattle.wave_problem.specs.Assignment.{pairs_of}
-use Rattle.wave_problem.specs.Wave.{cost}
 use Rattle.tree_planner.proofs.Paired.{all_priced, no_pair, pair_split, pair_worker, price_on, priced_next, ArePriced}
 use Rattle.tree_planner.proofs.prices.split_prices.Goals as goal
 
@@ -49,6 +48,7 @@ index_mut-requires c =
 pub loop-pair-preserved : goal.loop-pair-preserved
 loop-pair-preserved c =
     let wave = c.args.problem.now in
+    let worth = c.args.worth in
     let workers = c.args.workers.now in
     let each = c.args.starts.now.each.items in
     let prices = c.loop-pair.prices.items in
@@ -60,22 +60,20 @@ loop-pair-preserved c =
     let at = get_or (pairs_of each) k no_pair in
     let known = pair_split each k (omega arith) in
     let index = c.index.ensures.value ∙ ap (λ (x : ℕ × ℕ). x.0) x in
-    let price = c.split_price.ensures
-    ∙ ap (λ (r : ℕ). r - (slice_index workers c.pair-item.result.1
-    + unwrap_or (cost wave c.pair-item.result.0 c.pair-item.result.1) 0)) c.requires.worth
-    ∙ ap (λ (x : ℕ × ℕ). price_on wave workers x.0 x.1) x in
-    subst (λ (i : ℕ). ArePriced wave workers (pairs_of each) (k + 1) (slice_set prices i c.split_price.result))
+    let price = c.split_price.ensures ∙ ap (λ (x : ℕ × ℕ). price_on wave worth workers x.0 x.1) x in
+    subst (λ (i : ℕ). ArePriced wave worth workers (pairs_of each) (k + 1) (slice_set prices i c.split_price.result))
     (sym index)
-    (subst (λ (v : ℕ). ArePriced wave workers (pairs_of each) (k + 1) (slice_set prices at.0 v)) (sym price)
-    (priced_next wave workers each k prices (omega arith) (omega (arith, known, c.requires.splits))
+    (subst (λ (v : ℕ). ArePriced wave worth workers (pairs_of each) (k + 1) (slice_set prices at.0 v)) (sym price)
+    (priced_next wave worth workers each k prices (omega arith) (omega (arith, known, c.requires.splits))
     c.loop-pair.invariant))
 
 pub returns-clause-prices : goal.returns-clause-prices
 returns-clause-prices c = λ s.
     (let wave = c.args.problem.now in
+    let worth = c.args.worth in
     let workers = c.args.workers.now in
     let each = c.args.starts.now.each.items in
     let prices = c.loop-pair.prices.items in
     let size = ap length (c.deref-pair-items.ensures.value ∙ c.requires.pairs) in
-    all_priced wave workers each prices
-    (subst (λ (k : ℕ). ArePriced wave workers (pairs_of each) k prices) (omega arith) c.loop-pair.invariant) s)
+    all_priced wave worth workers each prices
+    (subst (λ (k : ℕ). ArePriced wave worth workers (pairs_of each) k prices) (omega arith) c.loop-pair.invariant) s)

@@ -9,7 +9,7 @@ returns-then-spare-eq0-clause-ready c = λ e.
     (let search = c.find_rest.new.search in
     ready _ (record { fixed = c.requires.fixed; known = c.requires.known; standing = c.requires.standing }) search
     c.find_rest.ensures.searched (c.find_rest.ensures.hole ∙ c.begin.ensures.hole) (state_of c.args.tables.now)
-    refl refl refl (λ v. omega arith))
+    refl refl refl refl (λ v. omega arith))
 
 pub returns-clause-higher : goal.returns-clause-higher
 returns-clause-higher c = λ e.
@@ -21,5 +21,5 @@ returns-clause-higher c = λ e.
       ready = ready _
           (record { fixed = c.requires.fixed; known = c.requires.known; standing = c.requires.standing }) search
           c.find_rest.ensures.searched (c.find_rest.ensures.hole ∙ c.begin.ensures.hole)
-          (with_depth (state_of c.args.tables.now) depth) refl refl refl c.lift.ensures.higher;
+          (with_depth (state_of c.args.tables.now) depth) refl refl refl refl c.lift.ensures.higher;
     })

@@ -12,7 +12,8 @@ overflow_add-distance c =
 
 pub returns-then-flow_of-gt0-clause-searching : goal.returns-then-flow_of-gt0-clause-searching
 returns-then-flow_of-gt0-clause-searching c =
-    c.reach.ensures.kept c.args.ground.now c.requires.ground c.requires.searching c.is_free-free.ensures c.above-up.ensures.known (λ none. record {
+    c.reach.ensures.kept c.args.ground.now c.requires.ground c.requires.searching
+    c.rest_of-rest.ensures.rest c.above-up.ensures.known (λ none. record {
       known = c.requires.known;
       hangs = λ e.
           (let top = c.requires.ground.kept.balanced.top in

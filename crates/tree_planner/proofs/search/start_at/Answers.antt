@@ -4,8 +4,8 @@ use Rattle.tree_planner.proofs.search.start_at.Goals as goal
 
 pub returns-clause-searching : goal.returns-clause-searching
 returns-clause-searching c =
-    c.reach.ensures.kept c.args.ground.now c.requires.ground c.requires.searching c.is_free-free.ensures c.requires.is_end.known
-    (λ none. record {
+    c.reach.ensures.kept c.args.ground.now c.requires.ground c.requires.searching
+    c.rest_of-rest.ensures.rest c.requires.is_end.known (λ none. record {
       is_end = c.requires.is_end;
       cost = (let is = c.cost_at.ensures.cost in let least = c.requires.least.ends c.args.end c.requires.is_end in omega arith);
     })

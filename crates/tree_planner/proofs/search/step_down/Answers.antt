@@ -17,7 +17,8 @@ returns-then-flow_of-slots_at-clause-searching c =
     let up = c.requires.below.above in
     let far = ap (λ v. far_at search v) up in
     let depth = ap (state_at g).depth up in
-    c.reach.ensures.kept g c.requires.ground c.requires.searching c.is_free-free.ensures c.requires.below.known (λ none. record {
+    c.reach.ensures.kept g c.requires.ground c.requires.searching
+    c.rest_of-rest.ensures.rest c.requires.below.known (λ none. record {
       hangs = c.requires.below.below;
       before = (subst (λ v. 0 < order_at search v) (sym up) c.requires.at.settled, inl none);
       room = omega arith;

@@ -1,7 +1,8 @@
-use Rattle.std.proofs.Common.{sym, subst, length, ◌∙◌}
+use Rattle.std.proofs.Common.{refl, sym, subst, length, ◌∙◌}
 use Rattle.tree_flow.specs.State.{slots_of}
 use Rattle.std.specs.Prelude.{slice_index}
 use Rattle.tree_flow.specs.Table.{IsOver}
+use Rattle.tree_flow.proofs.Fair.{fair_terms}
 use Rattle.tree_planner.specs.Listing.{AreLists}
 use Rattle.tree_planner.proofs.Fresh.{none_stands, same_sum}
 use Rattle.tree_planner.proofs.tables.fresh_tables.Goals as goal
@@ -23,3 +24,14 @@ returns-clause-tables c =
       known = λ s e stands. absurd (none_stands c.in_ok-places.places.items c.in_ok-places.ensures.all s e stands);
       listed = λ s e stands. absurd (none_stands c.in_ok-places.places.items c.in_ok-places.ensures.all s e stands);
     }
+
+pub returns-clause-fresh : goal.returns-clause-fresh
+returns-clause-fresh c = record {
+  fair = fair_terms c.args.problem.now c.args.prices _ c.limits.ensures.each
+      (record { worth = c.requires.worth; price = λ w k. refl });
+  size = c.in_ok-places.ensures.size;
+  places = c.in_ok-places.ensures.all;
+  flow = c.in_ok-flow.ensures.all;
+  depth = c.in_ok-depth.ensures.all;
+  free = c.in_ok-free.ensures.slots;
+}

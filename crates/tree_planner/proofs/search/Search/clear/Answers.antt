@@ -20,7 +20,7 @@ loop-k-preserved c =
     let i = c.loop-k.invariant in
     let far = c.set.new.self in
     let order = c.set-in-loop-k.new.self in
-    let here = c.set.ensures.here (2 ^ 54) in
+    let here = c.set.ensures.here (2 ^ 60) in
     let none = c.set-in-loop-k.ensures.here 0 in
     record {
       tables = record {
@@ -34,7 +34,7 @@ loop-k-preserved c =
       lows = i.lows;
       forgotten = λ v. forgotten_next first now (record now { far = far; order = order }) c.loop-k.k c.at-node.result
           (ap (λ (r : Reached). get_or r.nodes.items c.loop-k.k Cluster) (sym i.row) ∙ sym c.at-node.ensures)
-          (omega arith) none (c.set.ensures.others (2 ^ 54)) (c.set-in-loop-k.ensures.others 0) v (i.forgotten v);
+          (omega arith) none (c.set.ensures.others (2 ^ 60)) (c.set-in-loop-k.ensures.others 0) v (i.forgotten v);
     }
 
 pub returns-clause-blank : goal.returns-clause-blank
