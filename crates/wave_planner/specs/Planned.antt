@@ -3,7 +3,7 @@ use Rattle.std.specs.Prelude.{ℕ, ◌≡◌, ◌<◌, ◌⊎◌, List, Option, 
 use Rattle.wave_problem.specs.Wave.{Wave}
 use Rattle.wave_problem.specs.Assignment.{Plan}
 use Rattle.price_certificate.specs.PriceList.{PriceList}
-use Rattle.price_certificate.specs.Certificate.{claim, HasOneSize}
+use Rattle.price_certificate.specs.Certificate.{charged_claim, claim, HasOneSize}
 use Rattle.certificate_checker.specs.declared.Certified.{Certified}
 use Rattle.certificate_checker.specs.Verdict.{IsCertified}
 use Rattle.flow_network.specs.declared.kinds.NetworkKind.{NetworkKind}
@@ -18,15 +18,16 @@ pub record Planned : Type 0 where
   pub prices : PriceList
   pub certified : Certified
 
--- the prices certify the plan in the wave, with this count and cost
-pub record IsPlanFor (wave : Wave) (planned : Planned) : Type 0 where
+-- the prices certify the plan in the wave with these prices of places, with this count, cost and charge of places
+pub record IsPlanFor (wave : Wave) (places : List (List ℕ)) (planned : Planned) : Type 0 where
   pub one_size : HasOneSize (claim wave planned.plan.starts planned.prices) planned.plan.workers
-  pub certified : IsCertified (claim wave planned.plan.starts planned.prices) planned.certified
+  pub certified : IsCertified (charged_claim wave places planned.plan.starts planned.prices) planned.certified
 
 -- they did so in some wave
 pub record WasCertified (planned : Planned) : Type 0 where
   pub wave : Wave
-  pub plan_for : IsPlanFor wave planned
+  pub places : List (List ℕ)
+  pub plan_for : IsPlanFor wave places planned
 
 -- the direct network is asked for, and the problem has more splits or more workers than it is built for
 abbrev pub IsPast : NetworkKind → Wave → Type 0

@@ -5,7 +5,8 @@
 //! off a least-cost flow of it too (`engine_is_a_flow`). Both promise that the prices certify the plan, so no
 //! test is made. It always answers a best plan with prices that certify it, or that memory is wanting, or
 //! that the direct network was asked for and the problem has more splits or workers than that is built for.
-//! Stands on these three and on `certificate_checker`.
+//! `plan_places` plans where places have prices, over the tree. Stands on these three and on
+//! `certificate_checker`.
 //!
 //! # How the layer above uses it
 //! The program `plan_a_wave` plans a wave, and has its plan checked by its prices. The two contracts together
@@ -26,4 +27,4 @@ mod planning;
 
 pub use flow_network::NetworkKind;
 pub use laws::engine_is_a_flow;
-pub use planning::{PlanError, Planned, cost_of, pairs_of, plan, plan_with};
+pub use planning::{PlanError, Planned, cost_of, pairs_of, plan, plan_places, plan_with};

@@ -5,18 +5,20 @@ ghost use Rattle.rack_tree.specs.declared.TheConstants.{MAX_DISTANCE};
 ghost use Rattle.wave_problem.specs.declared.TheConstants.{MAX_BYTES, MAX_SPLITS};
 ghost use Rattle.wave_problem.specs.Assignment.{pairs_of, total, IsBest};
 ghost use Rattle.wave_problem.specs.Wave.{cost, IsUsable};
-ghost use Rattle.price_certificate.specs.Certificate.{claim, worker_price, Certifies, HasOneSize};
+ghost use Rattle.price_certificate.specs.Certificate.{charged_claim, claim, worker_price, Certifies, HasOneSize};
+ghost use Rattle.price_certificate.specs.Places.{places_taken, IsBestByCharge};
+ghost use Rattle.certificate_checker.specs.Verdict.{IsCertified};
 ghost use Rattle.flow_network.specs.declared.kinds.NetworkKind.{NetworkKind};
 ghost use Rattle.rack_network.specs.Racks.{IsTree};
 ghost use Rattle.wave_planner.specs.Planned.{IsMadeOver, IsPast, WasCertified, Planned};
 ghost use Rattle.wave_planner.specs.PlannedView.{planned_of};
 
-use certificate_checker::{Certified, count_and_cost};
+use certificate_checker::{Certified, certify_places, count_and_cost};
 use direct_network::DirectLayout;
 use flow_network::NetworkKind;
 use network_prices::priced_plan;
 use node_ids::{SplitNo, WorkerNo};
-use price_certificate::Prices;
+use price_certificate::{PlacePrices, Prices};
 use std::alloc::{AllocError, Global};
 use std::marker::Model;
 use thiserror::Error;
@@ -158,6 +160,7 @@ fn certified_plan(
     ensures prices { result.prices ≡ prices }
     ensures count { result.certified.count ≡ length (pairs_of plan.starts) }
     ensures cost { result.certified.cost ≡ total problem.now (pairs_of plan.starts) }
+    ensures places { result.certified.places ≡ 0 }
     ensures best { IsBest problem.now (pairs_of plan.starts) }
 {
     let certified = count_and_cost(problem, &plan, &prices);
@@ -207,6 +210,7 @@ pub fn plan(alloc: Global, problem: &Problem) -> Result<Planned, PlanError>
     ensures count { IfOk result (λ planned. planned.certified.count ≡ length (pairs_of planned.plan.starts)) }
     ensures cost { IfOk result (λ planned.
         planned.certified.cost ≡ total problem.now (pairs_of planned.plan.starts)) }
+    ensures places { IfOk result (λ planned. planned.certified.places ≡ 0) }
     ensures size { result ≢ Err PlanError.Size }
 {
     plan_with(alloc, problem, NetworkKind::Racks)
@@ -225,6 +229,7 @@ pub fn plan_with(alloc: Global, problem: &Problem, kind: NetworkKind) -> Result<
     ensures count { IfOk result (λ planned. planned.certified.count ≡ length (pairs_of planned.plan.starts)) }
     ensures cost { IfOk result (λ planned.
         planned.certified.cost ≡ total problem.now (pairs_of planned.plan.starts)) }
+    ensures places { IfOk result (λ planned. planned.certified.places ≡ 0) }
     ensures size { (result ≡ Err PlanError.Size) ↔ IsPast kind problem.now }
 {
     if is_too_large(problem, kind) {
@@ -236,6 +241,54 @@ pub fn plan_with(alloc: Global, problem: &Problem, kind: NetworkKind) -> Result<
     match pairs_of(alloc, &plan) {
         Ok(pairs) => Ok(certified_plan(problem, plan, prices, pairs)),
         Err(_) => Err(PlanError::Memory),
+    }
+}
+
+/// The same where places have prices: a plan that starts as many splits as any admissible assignment, at the
+/// least charge among those, which is the byte-distance of the starts with the prices of the places that they
+/// take. It is found over the tree.
+pub fn plan_places(
+    alloc: Global,
+    problem: &Problem,
+    places: &PlacePrices,
+) -> Result<Planned, AllocError>
+    ensures sizes { IfOk result (λ planned.
+        HasOneSize (claim problem.now planned.plan.starts planned.prices) planned.plan.workers) }
+    ensures certifies { IfOk result (λ planned.
+        Certifies (charged_claim problem.now places.now planned.plan.starts planned.prices)) }
+    ensures best { IfOk result (λ planned. IsBestByCharge places.now problem.now (pairs_of planned.plan.starts)) }
+    ensures count { IfOk result (λ planned. planned.certified.count ≡ length (pairs_of planned.plan.starts)) }
+    ensures cost { IfOk result (λ planned.
+        planned.certified.cost ≡ total problem.now (pairs_of planned.plan.starts)) }
+    ensures taken { IfOk result (λ planned. planned.certified.places
+        ≡ places_taken places.now problem.now (pairs_of planned.plan.starts)) }
+{
+    let (plan, prices) = tree_planner::plan_places(alloc, problem, places)?;
+    let certified = figures_of(alloc, problem, places, &plan, &prices);
+    let pairs = pairs_of(alloc, &plan)?;
+    Ok(Planned {
+        plan,
+        prices,
+        certified,
+        pairs,
+    })
+}
+
+// The count, the cost and the charge of places of a plan that the prices are known to certify.
+fn figures_of(
+    alloc: Global,
+    problem: &Problem,
+    places: &PlacePrices,
+    plan: &Plan,
+    prices: &Prices,
+) -> Certified
+    requires sizes { HasOneSize (claim problem.now plan.now.starts prices.now) plan.now.workers }
+    requires certifies { Certifies (charged_claim problem.now places.now plan.now.starts prices.now) }
+    ensures { IsCertified (charged_claim problem.now places.now plan.now.starts prices.now) result }
+{
+    match certify_places(alloc, problem, places, plan, prices) {
+        Ok(certified) => certified,
+        Err(_) => unreachable!(),
     }
 }
 

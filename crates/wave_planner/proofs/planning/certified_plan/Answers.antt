@@ -1,4 +1,4 @@
-use Rattle.std.proofs.Common.{sym, ◌∙◌}
+use Rattle.std.proofs.Common.{[], sym, ◌∙◌}
 use Rattle.wave_problem.specs.Assignment.{pairs_of}
 use Rattle.price_certificate.proofs.Covered.{charge-plain}
 use Rattle.wave_planner.proofs.planning.certified_plan.Goals as goal
@@ -7,6 +7,7 @@ pub invariant_of-result : goal.invariant_of-result
 invariant_of-result c = (
   record {
     wave = c.args.problem.now;
+    places = [];
     plan_for = record {
       one_size = c.requires.sizes;
       certified = record {

@@ -1,4 +1,4 @@
-use Rattle.std.proofs.Common.{ℕ, ◌<◌, List, length, get_or, arith, refl, sym, ap, ◌∙◌, subst}
+use Rattle.std.proofs.Common.{[], ℕ, ◌<◌, List, length, get_or, arith, refl, sym, ap, ◌∙◌, subst}
 use Rattle.wave_problem.specs.Assignment.{pairs_of, total}
 use Rattle.wave_problem.proofs.Bound.{live_known, pending_known}
 use Rattle.wave_problem.proofs.Pairs.{pairs_started}
@@ -48,6 +48,7 @@ pub invariant_of-result : goal.invariant_of-result
 invariant_of-result c = (
   record {
     wave = c.args.problem.now;
+    places = [];
     plan_for = record {
       one_size = c.requires.sizes;
       certified = record {
