@@ -45,6 +45,7 @@ in_plan Split = Some Head
 in_plan Barred = Some Head
 in_plan Dead = Some Head
 in_plan Busy = Some Head
+in_plan Places = Some Head
 in_plan End = Some Head
 in_plan k = None
 

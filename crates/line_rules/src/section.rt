@@ -57,9 +57,9 @@ fn section_in_plan(keyword: Keyword) -> Option<Section>
         Keyword::Begin | Keyword::Wave | Keyword::Ahead | Keyword::Done | Keyword::Fail => None,
         Keyword::Withdraw | Keyword::Die | Keyword::Join | Keyword::Add | Keyword::Lose => None,
         Keyword::Sweep | Keyword::Reduce | Keyword::Copies | Keyword::Backup => None,
-        Keyword::Places => None,
         Keyword::Centre | Keyword::Rack | Keyword::Worker | Keyword::Split => Some(Section::Head),
-        Keyword::Barred | Keyword::Dead | Keyword::Busy | Keyword::End => Some(Section::Head),
+        Keyword::Barred | Keyword::Dead | Keyword::Busy | Keyword::Places => Some(Section::Head),
+        Keyword::End => Some(Section::Head),
     }
 }
 

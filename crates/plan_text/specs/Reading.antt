@@ -13,9 +13,10 @@ use Rattle.plan_text.specs.Value.{MakesWave, declared_places, declared_starts, p
 use Rattle.plan_text.specs.declared.built.PlanText.{PlanText}
 use Rattle.plan_text.specs.declared.built.ProblemText.{ProblemText}
 
--- the problem and its names are those that the rows make
+-- the problem, its prices of places and its names are those that the rows make
 pub record MakesProblem (rows : List Statement) (v : ProblemText) : Type 0 where
   pub wave : MakesWave rows v.problem
+  pub places : v.places ≡ declared_places rows
   pub splits : v.splits ≡ names_of Split rows
   pub workers : v.workers ≡ names_of Worker rows
 

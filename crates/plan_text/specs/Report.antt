@@ -10,18 +10,27 @@ use Rattle.price_certificate.specs.declared.Condition.TheVariants.{Spare}
 use Rattle.price_certificate.specs.PriceList.{PriceList}
 use Rattle.text_lines.specs.Texts.{Word, name_of, numbers_of}
 
-abbrev pub certified_line : ℕ → ℕ → List ℕ
-certified_line count cost = codes "certified " ++ decimal count ++ codes " " ++ decimal cost ++ 10 ∷ []
+-- what a plan comes to, after a word: how many splits it starts, and their byte-distance
+abbrev pub free_line : Word → ℕ → ℕ → List ℕ
+free_line word count cost = word ++ codes " " ++ decimal count ++ codes " " ++ decimal cost ++ 10 ∷ []
 
 -- and what the places taken cost together
-abbrev pub charged_line : ℕ → ℕ → ℕ → List ℕ
-charged_line count cost taken =
-    codes "certified " ++ decimal count ++ codes " " ++ decimal cost ++ codes " " ++ decimal taken ++ 10 ∷ []
+abbrev pub charged_line : Word → ℕ → ℕ → ℕ → List ℕ
+charged_line word count cost taken =
+    word ++ codes " " ++ decimal count ++ codes " " ++ decimal cost ++ codes " " ++ decimal taken ++ 10 ∷ []
 
 -- which is told where places have prices
+abbrev pub figures_line : Word → List (List ℕ) → ℕ → ℕ → ℕ → List ℕ
+figures_line word [] count cost taken = free_line word count cost
+figures_line word places count cost taken = charged_line word count cost taken
+
+-- the answer to a plan that is certified
 abbrev pub certified_by : List (List ℕ) → ℕ → ℕ → ℕ → List ℕ
-certified_by [] count cost taken = certified_line count cost
-certified_by places count cost taken = charged_line count cost taken
+certified_by places count cost taken = figures_line (codes "certified") places count cost taken
+
+-- the first line of a plan that was made
+abbrev pub planned_by : List (List ℕ) → ℕ → ℕ → ℕ → List ℕ
+planned_by places count cost taken = figures_line (codes "wave") places count cost taken
 
 -- a condition that fails at a split or a worker
 abbrev pub refused_at : ℕ → Word → List ℕ

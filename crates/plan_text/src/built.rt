@@ -33,10 +33,11 @@ pub struct PlanText<'t> {
     pub workers: NameTable<'t>,
 }
 
-/// A problem, and the names of its splits and workers by number.
+/// A problem, prices of places, and the names of the splits and workers by number.
 #[derive(Drop)]
 pub struct ProblemText<'t> {
     pub problem: Problem,
+    pub places: PlacePrices,
     pub splits: NameList<'t>,
     pub workers: NameList<'t>,
 }
@@ -74,11 +75,13 @@ pub fn build_problem_text<'t>(
     ensures splits { IfOk result (λ v. length v.splits ≡ length v.problem.splits) }
     ensures workers { IfOk result (λ v. length v.workers ≡ length v.problem.workers) }
 {
+    let places = build_places(alloc, rows)?;
     let problem = build_problem(alloc, rows)?;
     let splits = rows.name_list(alloc, Keyword::Split)?;
     let workers = rows.name_list(alloc, Keyword::Worker)?;
     Ok(ProblemText {
         problem,
+        places,
         splits,
         workers,
     })

@@ -1,7 +1,7 @@
 ghost use Rattle.std.specs.Prelude.{◌≡◌, IfOk, string_bytes};
-ghost use Rattle.plan_text.specs.Report.{certified_by, certified_line, charged_line, refused_at};
-ghost use Rattle.plan_text.specs.Report.{refused_at_pair, refused_line};
+ghost use Rattle.plan_text.specs.Report.{certified_by, refused_at, refused_at_pair, refused_line};
 
+use crate::figures::figures;
 use price_certificate::{Condition, PlacePrices};
 use std::alloc::{AllocError, Global};
 use text_lines::NameTable;
@@ -17,28 +17,7 @@ pub fn certified(
 ) -> Result<String, AllocError>
     ensures { IfOk result (λ line. string_bytes line ≡ certified_by places.now count cost taken) }
 {
-    if places.is_free() {
-        certified_free(alloc, count, cost)
-    } else {
-        certified_charged(alloc, count, cost, taken)
-    }
-}
-
-fn certified_free(alloc: Global, count: usize, cost: u64) -> Result<String, AllocError>
-    ensures { IfOk result (λ line. string_bytes line ≡ certified_line count cost) }
-{
-    format!(in alloc; "certified {count} {cost}\n")
-}
-
-fn certified_charged(
-    alloc: Global,
-    count: usize,
-    cost: u64,
-    taken: u64,
-) -> Result<String, AllocError>
-    ensures { IfOk result (λ line. string_bytes line ≡ charged_line count cost taken) }
-{
-    format!(in alloc; "certified {count} {cost} {taken}\n")
+    figures(alloc, "certified", places, count, cost, taken)
 }
 
 /// The answer to a plan that its prices do not certify: the first condition that fails, at its place.

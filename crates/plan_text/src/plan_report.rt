@@ -1,60 +1,33 @@
 ghost use Rattle.std.specs.Prelude.{◌≡◌, ◌≤◌, ◌<◌, ◌++◌, IfOk, OnOk, length, string_bytes};
 ghost use Rattle.wave_problem.specs.declared.TheConstants.{MAX_SPLITS};
 ghost use Rattle.rack_tree.specs.declared.TheConstants.{MAX_WORKERS};
-ghost use Rattle.plan_text.specs.Report.{price_line, price_lines, price_lines_of, start_line, start_lines};
-ghost use Rattle.text_lines.specs.WaveLine.{wave_line};
+ghost use Rattle.plan_text.specs.Report.{planned_by, price_line, price_lines, price_lines_of, start_line};
+ghost use Rattle.plan_text.specs.Report.{start_lines};
 
+use crate::figures::figures;
 use crate::name_list::NameList;
 use node_ids::{SplitNo, WorkerNo};
-use price_certificate::Prices;
+use price_certificate::{PlacePrices, Prices};
 use std::alloc::{AllocError, Global};
 use wave_problem::Plan;
 
-/// The answer to a problem: how many splits its plan starts, their byte-distance, and the starts by
-/// rising split.
+/// The first line of the answer to a problem: how many splits its plan starts, their byte-distance, and where
+/// places have prices, what the places cost that the plan takes.
 pub fn planned(
     alloc: Global,
-    splits: &NameList<'_>,
-    workers: &NameList<'_>,
-    plan: &Plan,
+    places: &PlacePrices,
     count: usize,
     cost: u64,
+    taken: u64,
 ) -> Result<String, AllocError>
-    requires { length splits.now ≡ length plan.now.starts }
-    ensures { IfOk result (λ lines. string_bytes lines
-        ≡ wave_line count cost ++ start_lines splits.now workers.now plan.now.starts) }
+    ensures { IfOk result (λ line. string_bytes line ≡ planned_by places.now count cost taken) }
 {
-    let mut lines = wave(alloc, count, cost)?;
-    add_starts(&mut lines, splits, workers, plan)?;
-    Ok(lines)
+    figures(alloc, "wave", places, count, cost, taken)
 }
 
-/// Appends the prices of all splits, then of all workers, each by number. After an error the lines may
-/// hold a front of them; their owner drops them.
-pub fn add_prices(
-    lines: &mut String,
-    splits: &NameList<'_>,
-    workers: &NameList<'_>,
-    prices: &Prices,
-) -> Result<(), AllocError>
-    requires splits { length splits.now ≡ length prices.now.splits }
-    requires workers { length workers.now ≡ length prices.now.workers }
-    requires few_splits { length splits.now ≤ MAX_SPLITS }
-    requires few_workers { length workers.now ≤ MAX_WORKERS }
-    ensures { OnOk result (string_bytes lines.new
-        ≡ string_bytes lines.old ++ price_lines splits.now workers.now prices.now) }
-{
-    add_split_prices(lines, splits, prices)?;
-    add_worker_prices(lines, workers, prices)
-}
-
-fn wave(alloc: Global, count: usize, cost: u64) -> Result<String, AllocError>
-    ensures { IfOk result (λ line. string_bytes line ≡ wave_line count cost) }
-{
-    format!(in alloc; "wave {count} {cost}\n")
-}
-
-fn add_starts(
+/// Appends the starts of a plan, by rising split. After an error the lines may hold a front of them; their
+/// owner drops them.
+pub fn add_starts(
     lines: &mut String,
     splits: &NameList<'_>,
     workers: &NameList<'_>,
@@ -91,6 +64,25 @@ fn add_start(
         }
         None => Ok(()),
     }
+}
+
+/// Appends the prices of all splits, then of all workers, each by number. After an error the lines may
+/// hold a front of them; their owner drops them.
+pub fn add_prices(
+    lines: &mut String,
+    splits: &NameList<'_>,
+    workers: &NameList<'_>,
+    prices: &Prices,
+) -> Result<(), AllocError>
+    requires splits { length splits.now ≡ length prices.now.splits }
+    requires workers { length workers.now ≡ length prices.now.workers }
+    requires few_splits { length splits.now ≤ MAX_SPLITS }
+    requires few_workers { length workers.now ≤ MAX_WORKERS }
+    ensures { OnOk result (string_bytes lines.new
+        ≡ string_bytes lines.old ++ price_lines splits.now workers.now prices.now) }
+{
+    add_split_prices(lines, splits, prices)?;
+    add_worker_prices(lines, workers, prices)
 }
 
 fn add_split_prices(
