@@ -119,12 +119,13 @@ starts-back rows starts b c bare names count of_workers =
 
 -- ---- the prices
 
--- no line is of places
-pub places-free : (rows : List Statement) (a : List (Word × Word)) (b c : List (Word × ℕ)) → IsBare rows
-    → declared_places (rows ++ plan_rows a b c) ≡ []
-places-free rows a b c bare =
-    ap (λ (lines : List Statement). places_by lines (names_of Worker (rows ++ plan_rows a b c)))
-    (rows-other Places rows a b c (λ p ss. refl) (λ p ss. refl) ∙ bare.no_places)
+-- no line of the plan is of places
+pub places-back : (rows : List Statement) (a : List (Word × Word)) (b c : List (Word × ℕ))
+    → declared_places (rows ++ plan_rows a b c) ≡ declared_places rows
+places-back rows a b c =
+    let lines = rows-other Places rows a b c (λ p ss. refl) (λ p ss. refl) in
+    let worker_rows = rows-other Worker rows a b c (λ p ss. refl) (λ p ss. refl) in
+    λ i. places_by (lines i) (names_in (worker_rows i))
 
 split_prices-back : (splits workers : List Word) (ps qs : List ℕ) → AreNames splits workers
     → length ps ≡ length splits

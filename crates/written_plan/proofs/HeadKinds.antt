@@ -1,7 +1,7 @@
 -- What holds of the keywords of a head: a text to check has the same head as a text to plan from.
 use Rattle.std.proofs.Common.{◌≡◌, ◌⊎◌, Some, inl, inr, refl, true}
 use Rattle.line_shapes.specs.declared.keyword.Keyword.{Keyword}
-use Rattle.line_shapes.specs.declared.keyword.Keyword.TheVariants.{Worker, Split, Start, Price, Places, End}
+use Rattle.line_shapes.specs.declared.keyword.Keyword.TheVariants.{Worker, Split, Start, Price, End}
 use Rattle.line_rules.specs.Entering.{is_priced, most_of}
 use Rattle.line_rules.specs.Sections.{in_check, in_plan, section_after}
 use Rattle.line_rules.specs.declared.edition.Version.{Version}
@@ -17,7 +17,6 @@ pub record IsOfHead (k : Keyword) : Type 0 where
   pub after : section_after k ≡ Head
   pub no_start : k ≡ Start → ⊥
   pub no_price : k ≡ Price → ⊥
-  pub no_places : k ≡ Places → ⊥
 
 -- a line of a text to plan from is the last, or of a head
 pub head_or_end : (k : Keyword) (section : Section) → in_plan k ≡ Some section → IsOfHead k ⊎ (k ≡ End)
@@ -29,7 +28,6 @@ head_or_end k section is =
       after = cc;
       no_start = λ e. cc;
       no_price = λ e. cc;
-      no_places = λ e. cc;
     })
 
 -- what has a price is a split or a worker

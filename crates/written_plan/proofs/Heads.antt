@@ -9,7 +9,7 @@ use Rattle.text_lines.specs.Texts.{IsPrintable, Line, Word}
 use Rattle.line_shapes.specs.Lines.{Says, Statement}
 use Rattle.line_shapes.specs.Places.{place_at, places_of}
 use Rattle.line_shapes.specs.declared.keyword.Keyword.{Keyword}
-use Rattle.line_shapes.specs.declared.keyword.Keyword.TheVariants.{Worker, Split, Start, Price, Places, End}
+use Rattle.line_shapes.specs.declared.keyword.Keyword.TheVariants.{Worker, Split, Start, Price, End}
 use Rattle.line_shapes.specs.declared.place.Place.TheVariants.{New}
 use Rattle.line_rules.specs.Entering.{Key, entered_of, entering_of, key_of}
 use Rattle.line_rules.specs.Faults.{IsFit, Keep}
@@ -61,11 +61,10 @@ row_cases rows s k n h =
 rows_of-entered : (k : Keyword) (s : Statement) → (s.keyword ≡ k → ⊥) → rows_of k (entered_of s) ≡ []
 rows_of-entered k s other = grind arith
 
--- nothing of a plan stands in the rows, and no price of a place
+-- nothing of a plan stands in the rows
 pub record IsBare (rows : List Statement) : Type 0 where
   pub no_starts : rows_of Start rows ≡ []
   pub no_prices : rows_of Price rows ≡ []
-  pub no_places : rows_of Places rows ≡ []
 
 none-more : (k : Keyword) (rows : List Statement) (s : Statement) → (s.keyword ≡ k → ⊥) → rows_of k rows ≡ []
     → rows_of k (rows ++ entered_of s) ≡ []
@@ -191,7 +190,7 @@ head_and_end k (l ∷ ls) (s ∷ ss) planning bare apart going fit ended =
 head_and_end k ls ss planning bare apart going fit ended = absurd fit
 
 pub bare-none : IsBare []
-bare-none = record { no_starts = refl; no_prices = refl; no_places = refl }
+bare-none = record { no_starts = refl; no_prices = refl }
 
 pub apart-none : AreApart []
 apart-none n split worker = absurd (let lt = split.1 in omega arith)

@@ -22,7 +22,7 @@ use Rattle.plan_text.specs.Tidy.{AreTidy}
 use Rattle.plan_text.specs.Value.{MakesWave, declared_places, declared_starts, prices_in}
 use Rattle.plan_text.proofs.Tidy.{tidy-rows}
 use Rattle.written_plan.specs.Joined.{IsWritable, ReadsBack, WrittenPlanReadsBack, with_plan}
-use Rattle.written_plan.proofs.Declared.{head_names, head_spelled, places-free, prices-read_back, same_wave}
+use Rattle.written_plan.proofs.Declared.{head_names, head_spelled, places-back, prices-read_back, same_wave}
 use Rattle.written_plan.proofs.Declared.{starts-back}
 use Rattle.written_plan.proofs.Entered.{HasNames}
 use Rattle.written_plan.proofs.FitText.{fit-append, reads_fit}
@@ -59,16 +59,16 @@ section-ended head a b c =
     ∙ section-append (section_at (section_at Body starts) ps) qs last
 
 -- with the names that the head leaves
-joined-reads_back : (text : List ℕ) (ss : List Statement) (wave : Wave) (starts : List (Option ℕ))
-    (prices : PriceList)
+joined-reads_back : (text : List ℕ) (ss : List Statement) (wave : Wave) (places : List (List ℕ))
+    (starts : List (Option ℕ)) (prices : PriceList)
     → lines_of text ≡ take (length ss) (lines_of text) ++ [] ∷ []
     → (h : IsHeadAndEnd (known_at Planning []) (take (length ss) (lines_of text)) ss)
-    → MakesWave (rows_in h.head) wave
+    → MakesWave (rows_in h.head) wave → places ≡ declared_places (rows_in h.head)
     → IsWritable (names_of Split (rows_in h.head)) (names_of Worker (rows_in h.head)) starts prices
     → length (joined_by text (rows_in h.head) starts prices)
     ≤ longest (joined_by text (rows_in h.head) starts prices)
-    → ReadsBack (joined_by text (rows_in h.head) starts prices) wave starts prices
-joined-reads_back text ss wave starts prices lines h makes plan short =
+    → ReadsBack (joined_by text (rows_in h.head) starts prices) wave places starts prices
+joined-reads_back text ss wave places starts prices lines h makes priced plan short =
     let rows = rows_in h.head in
     let splits = names_of Split rows in
     let workers = names_of Worker rows in
@@ -117,11 +117,11 @@ joined-reads_back text ss wave starts prices lines h makes plan short =
       reads = reads_fit Checking new_text written all short new_lines fit ended;
       declared = subst (λ (r : List Statement). MakesWave r wave) (sym whole)
           (same_wave rows a b c wave makes);
+      same_places = ap declared_places whole ∙ places-back rows a b c ∙ sym priced;
       same_starts =
           ap declared_starts whole ∙ starts-back rows starts b c bare names plan.split_starts plan.of_workers;
       same_prices = ap prices_in whole ∙ prices-read_back rows a prices bare names plan.split_prices
           plan.worker_prices plan.split_amounts plan.worker_amounts;
-      free_places = ap declared_places whole ∙ places-free rows a b c bare;
     }
 
 pub written_plan_reads_back : WrittenPlanReadsBack
@@ -142,9 +142,10 @@ written_plan_reads_back text v starts prices problem fit plan short =
     λ xs ws. IsWritable xs ws starts prices
     → length (with_plan text (lines_of_plan xs ws starts prices))
     ≤ longest (with_plan text (lines_of_plan xs ws starts prices))
-    → ReadsBack (with_plan text (lines_of_plan xs ws starts prices)) v.problem starts prices in
+    → ReadsBack (with_plan text (lines_of_plan xs ws starts prices)) v.problem v.places starts prices in
     let here : Holds (names_of Split rows) (names_of Worker rows) =
-    joined-reads_back text ss v.problem starts prices (all_lines Planning text ss problem.reads) h
-    (subst (λ (r : List Statement). MakesWave r v.problem) same problem.declares.wave) in
+    joined-reads_back text ss v.problem v.places starts prices (all_lines Planning text ss problem.reads) h
+    (subst (λ (r : List Statement). MakesWave r v.problem) same problem.declares.wave)
+    (problem.declares.places ∙ ap declared_places same) in
     subst (λ (xs : List Word). Holds xs v.workers) splits
     (subst (λ (ws : List Word). Holds (names_of Split rows) ws) workers here) plan short

@@ -39,15 +39,15 @@ pub record IsWritable (splits workers : List Word) (starts : List (Option ℕ))
   pub split_amounts : All (λ amount. amount < 2 ^ 64) prices.splits
   pub worker_amounts : All (λ amount. amount < 2 ^ 64) prices.workers
 
--- the text to check has no fault, and declares the wave, the starts and the prices, and no place has a price
-pub record ReadsBack (text : List ℕ) (wave : Wave) (starts : List (Option ℕ))
+-- the text to check has no fault, and declares the wave, the prices of places, the starts and the prices
+pub record ReadsBack (text : List ℕ) (wave : Wave) (places : List (List ℕ)) (starts : List (Option ℕ))
     (prices : PriceList) : Type 0 where
   pub statements : List Statement
   pub reads : ReadsAs Checking text statements
   pub declared : DeclaresWave statements wave
+  pub same_places : value.places statements ≡ places
   pub same_starts : value.starts statements ≡ starts
   pub same_prices : value.prices statements ≡ prices
-  pub free_places : value.places statements ≡ []
 
 -- a plan written for a text's problem, joined to that text's head, reads back as itself, if the whole is not
 -- too long
@@ -56,4 +56,4 @@ WrittenPlanReadsBack = (text : List ℕ) (v : ProblemText) (starts : List (Optio
     → IsProblemOf text v → HasFitLines Planning text → IsWritable v.splits v.workers starts prices
     → length (with_plan text (lines_of_plan v.splits v.workers starts prices))
     ≤ longest (with_plan text (lines_of_plan v.splits v.workers starts prices))
-    → ReadsBack (with_plan text (lines_of_plan v.splits v.workers starts prices)) v.problem starts prices
+    → ReadsBack (with_plan text (lines_of_plan v.splits v.workers starts prices)) v.problem v.places starts prices

@@ -1,7 +1,7 @@
 //! The law that a plan, written beside the problem text that it was made from, is a text to check.
 //!
 //! Take the head of a text to plan from, a line `plan`, the written starts and prices, and `end`. This text
-//! has no fault, and declares the same wave, starts and prices. The law stands on the rows of `line_rules`
+//! has no fault, and declares the same wave, prices of places, starts and prices. The law stands on the rows of `line_rules`
 //! and the texts of `plan_text`, for the program that writes plans.
 #![tactic(auto)]
 
