@@ -133,7 +133,7 @@ table =
     ∷ status (codes "6")
     (codes "a job's history is not made of its threads' calls, or a thread could not be started")
     ∷ status (codes "64")
-    (codes "usage: the command line asks for nothing, or for a direct network past 1,024 splits or 256 workers")
+    (codes "usage: no command is asked for, or a direct network past 1,024 splits or 256 workers or with prices of places")
     ∷ status (codes "141")
     (codes "the reader of the answer has gone")
     ∷ []

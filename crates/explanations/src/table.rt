@@ -230,7 +230,7 @@ const ENTRIES: [Entry; 44] = [
     Entry {
         kind: "status",
         name: "64",
-        sentence: "usage: the command line asks for nothing, or for a direct network past 1,024 splits or 256 workers",
+        sentence: "usage: no command is asked for, or a direct network past 1,024 splits or 256 workers or with prices of places",
     },
     Entry {
         kind: "status",

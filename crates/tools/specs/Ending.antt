@@ -76,5 +76,5 @@ message_of (Failed HistoryFull) = Some (codes "mrjob: history full")
 message_of (Torn place) = Some (codes "mrjob: torn at " ++ decimal place)
 message_of NoThread = Some (codes "mrjob: no thread")
 message_of GateLimit = Some (codes "mrjob: gate limit")
-message_of PastNetwork = Some (codes "mrjob: too many splits or workers for a direct network")
+message_of PastNetwork = Some (codes "mrjob: no direct network for so many splits or workers, or for prices of places")
 message_of ending = None

@@ -1,6 +1,6 @@
 -- A check answers each text in one way, with at most one end and one line; planning ends in one way.
 -- (Proved here, since an impl cites its own crate's specs alone.)
-use Rattle.std.proofs.Common.{ℕ, List, Bool, Ok, Err, ◌≡◌, ◌∙◌, refl, sym, ap, subst}
+use Rattle.std.proofs.Common.{ℕ, List, [], ◌∷◌, Bool, Ok, Err, ◌≡◌, ◌∙◌, refl, sym, ap, subst}
 use Rattle.wave_problem.specs.Wave.{Wave}
 use Rattle.line_shapes.specs.Lines.{Statement}
 use Rattle.price_certificate.specs.Certificate.{Claim}
@@ -12,13 +12,12 @@ use Rattle.plan_text.specs.Names.{rows_in, splits, workers}
 use Rattle.line_rules.specs.declared.purpose.Purpose.TheVariants.{Checking, Planning}
 use Rattle.line_rules.proofs.OneReading.{reads-faultless, reads-unique}
 use Rattle.plan_text.specs.Report.{refused_line}
-use Rattle.plan_text.specs.Value.{DeclaresWave}
+use Rattle.plan_text.specs.Value.{DeclaresWave, places}
 use Rattle.command_runner.specs.CommandRun.{HasOneAnswer, AnyLines}
 use Rattle.line_rules.proofs.OneFault.{one_fault}
 use Rattle.plan_text.proofs.OneWave.{same_bars, same_parts}
 use Rattle.tools.specs.CheckAnswer.{AnswersRead, CheckAnswer, Judges, declared_claim}
-use Rattle.wave_planner.specs.Planned.{IsPast}
-use Rattle.tools.specs.PlanAnswer.{IsPastNetwork, PlanAnswer, PlansRead}
+use Rattle.tools.specs.PlanAnswer.{IsPastNetwork, IsPastWith, PlanAnswer, PlansRead}
 use Rattle.tools.specs.declared.program_end.CheckEnd.{CheckEnd}
 use Rattle.tools.specs.declared.program_end.CheckEnd.TheVariants.{Certified, Refused}
 use Rattle.tools.specs.declared.program_end.PlanEnd.TheVariants.{PastNetwork, Planned}
@@ -63,6 +62,12 @@ one_check_answer text (Err f) (Ok b) x y g h =
 one_check_answer text (Err f) (Err g) x y p q =
     let one = one_fault Checking text f g x y p q in (ap Err one.0, one.1)
 
+-- it does not matter how the set of barred pairs is kept
+past_alike : (network : NetworkKind) (ps : List (List ℕ)) (wave : Wave) (barred : List (List ℕ))
+    → IsPastWith network ps (record wave { barred = barred }) → IsPastWith network ps wave
+past_alike network [] wave barred past = past
+past_alike network (p ∷ ps) wave barred past = past
+
 -- a problem is past the limits of the network, or not
 not_both : (text : List ℕ) (network : NetworkKind) (with_prices : Bool) (x y : List ℕ)
     → PlansRead text network with_prices x → IsPastNetwork text network y → ⊥
@@ -70,8 +75,11 @@ not_both text network with_prices x y g h =
     let same : h.statements ≡ g.statements =
     reads-unique Planning text h.statements g.statements h.reads g.reads in
     let made : DeclaresWave g.statements h.wave = subst (λ q. DeclaresWave q h.wave) same h.declared in
+    let past : IsPastWith network (places g.statements) h.wave =
+    subst (λ q. IsPastWith network (places q) h.wave) same h.past in
     let parts = same_parts (rows_in g.statements) g.wave h.wave g.declared made in
-    g.fits (subst (λ (w : Wave). IsPast network w) parts h.past)
+    g.fits (past_alike network (places g.statements) g.wave h.wave.barred
+    (subst (λ (w : Wave). IsPastWith network (places g.statements) w) parts past))
 
 -- at most one end of planning answers a text
 pub one_plan_answer : (network : NetworkKind) (with_prices : Bool) →

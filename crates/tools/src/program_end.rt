@@ -20,7 +20,8 @@ pub enum CheckEnd {
 pub enum PlanEnd {
     /// A best plan, which its prices certify.
     Planned,
-    /// The problem has more splits or workers than the network is built for, and nothing was written.
+    /// No network of the kind is built for so many splits or workers, or for prices of places, and nothing was
+    /// written.
     PastNetwork,
 }
 
@@ -35,7 +36,8 @@ pub enum Ending {
     Stuck,
     /// The words of the command line ask for nothing.
     Misused,
-    /// The words of the command line ask for a network that is not built for so many splits or workers.
+    /// The words of the command line ask for a network that is not built for so many splits or workers, or for
+    /// prices of places.
     PastNetwork,
     /// The command has no answer of its own.
     Failed(ToolError),
@@ -133,7 +135,7 @@ impl Ending {
             Ending::NoThread => Some(plain("mrjob: no thread")),
             Ending::GateLimit => Some(plain("mrjob: gate limit")),
             Ending::PastNetwork => Some(plain(
-                "mrjob: too many splits or workers for a direct network",
+                "mrjob: no direct network for so many splits or workers, or for prices of places",
             )),
             Ending::Failed(ToolError::Text(_)) => None,
             Ending::Well | Ending::Refused | Ending::Stuck | Ending::Misused | Ending::Left => None,

@@ -1,6 +1,5 @@
 use Rattle.std.proofs.Common.{◌++◌, ◌∙◌}
-use Rattle.plan_text.specs.Report.{start_lines}
-use Rattle.text_lines.specs.WaveLine.{wave_line}
+use Rattle.plan_text.specs.Report.{planned_by, start_lines}
 use Rattle.tools.specs.PlanAnswer.{asked_prices}
 use Rattle.tools.proofs.planning.lines_on.Goals as goal
 
@@ -8,8 +7,10 @@ pub returns : goal.returns
 returns c =
     let v = c.args.read.now in
     let said = c.certified-said.ensures.certified in
-    let front = c.in_ok-lines.ensures
-    ∙ (λ i. wave_line (said i).count (said i).cost
-    ++ start_lines v.splits v.workers (c.plan.ensures i).starts) in
     c.in_ok-add_asked.ensures
-    ∙ (λ i. front i ++ asked_prices c.args.asked v.splits v.workers (c.prices.ensures i))
+    ∙ (λ i. c.in_ok-add_starts.ensures i ++ asked_prices c.args.asked v.splits v.workers c.prices.result.now)
+    ∙ (λ i. (c.in_ok-lines.ensures i ++ start_lines v.splits v.workers c.plan.result.now.starts)
+    ++ asked_prices c.args.asked v.splits v.workers c.prices.result.now)
+    ∙ (λ i. (planned_by v.places (said i).count (said i).cost (said i).places
+    ++ start_lines v.splits v.workers (c.plan.ensures i).starts)
+    ++ asked_prices c.args.asked v.splits v.workers (c.prices.ensures i))
