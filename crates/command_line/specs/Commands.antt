@@ -30,21 +30,17 @@ abbrev pub word_of : NetworkKind → Text
 word_of Direct = codes "direct"
 word_of Racks = codes "racks"
 
--- the option `--network`, which takes a value; the network with racks where it is not given
-abbrev pub network : Rule
-network = record (new_rule (codes "network")) {
-  long = Some (codes "network");
-  value_names = 1;
-  defaults = word_of Racks ∷ [];
-}
-
--- the option `--ahead`, which takes a value
-abbrev pub ahead : Rule
-ahead = record (new_rule (codes "ahead")) { long = Some (codes "ahead"); value_names = 1 }
-
 -- a word that may stand after a command, in its place
 abbrev pub word : Text → Rule
 word name = record (new_rule name) { value_names = 1 }
+
+-- an option, as `--ahead`, which takes a value
+abbrev pub option : Text → Rule
+option name = record (word name) { long = Some name }
+
+-- the option `--network`; the network with racks where it is not given
+abbrev pub network : Rule
+network = record (option (codes "network")) { defaults = word_of Racks ∷ [] }
 
 abbrev pub check : App
 check = with_rule (new_app (codes "check")) (flag (codes "explain"))
@@ -63,7 +59,7 @@ serve = new_app (codes "serve")
 abbrev pub run : App
 run =
     with_rule
-    (with_rule (with_rule (with_rule (new_app (codes "run")) ahead) (flag (codes "history")))
+    (with_rule (with_rule (with_rule (new_app (codes "run")) (option (codes "ahead"))) (flag (codes "history")))
     (flag (codes "quiet"))) (flag (codes "explain"))
 
 abbrev pub explain : App

@@ -1,6 +1,6 @@
 ghost use Rattle.std.specs.Prelude.{◌≡◌, IfOk, false, true};
 ghost use Rattle.clap.specs.Words.{App, app_of, new_app, rule_of, with_subcommand};
-ghost use Rattle.command_line.specs.Commands.{ahead, check, explain, flag, mrjob, network, plan, play, run};
+ghost use Rattle.command_line.specs.Commands.{check, explain, flag, mrjob, network, option, plan, play, run};
 ghost use Rattle.command_line.specs.Commands.{serve, word};
 
 use clap::{Arg, ArgAction, Command};
@@ -24,7 +24,7 @@ Statuses:
       no place left for an event, a sweep or an attempt
   6   a job's history is not made of its threads' calls, or a thread could not be started
   64  the words of the command line are wrong, or a direct network of more than 1,024 splits or 256
-      workers was asked for
+      workers, or with prices of places, was asked for
   141 the reader of the answer has gone
 
 Examples:
@@ -39,7 +39,8 @@ const CHECK_ABOUT: &str = "Certifies a plan by its prices, or says which conditi
 
 const CHECK_TEXTS: &str = "\
 Input:   a problem, a plan and its prices, as text on standard input
-Output:  `certified COUNT COST`, `refused CONDITION NAME..`, or `line LINE: fault NUMBER`
+Output:  `certified COUNT COST`, with prices of places `certified COUNT COST PLACES`; or
+         `refused CONDITION NAME..`, or `line LINE: fault NUMBER`
 Status:  0 certified, 1 refused, 2 fault; `mrjob --help` has the others
 Try:     mrjob check < examples/swap.txt
 More:    docs/MODEL.md, from `Certificate` on
@@ -68,8 +69,9 @@ const NETWORK_HELP: &str =
 
 const PLAN_TEXTS: &str = "\
 Input:   a problem, as text on standard input
-Output:  `wave COUNT COST`, then `start SPLIT WORKER` for each start, and with --prices
-         `price NAME NUMBER` for each split and worker; or `line LINE: fault NUMBER`
+Output:  `wave COUNT COST`, with prices of places `wave COUNT COST PLACES`; then
+         `start SPLIT WORKER` for each start, and with --prices `price NAME NUMBER` for each split
+         and worker; or `line LINE: fault NUMBER`
 Status:  0 planned, 2 fault; `mrjob --help` has the others
 Try:     mrjob plan --prices < examples/plan_swap.txt
 More:    docs/MODEL.md, `Texts` and `The answer of plan`
@@ -237,25 +239,19 @@ fn word_of<'a>(alloc: Global, name: &'a str, shown: &'a str, help: &'a str) -> A
     Arg::new(alloc, name).help(help).value_name(shown)
 }
 
+// An option of this name, which takes a value; help shows the value as told.
+fn option_of<'a>(alloc: Global, name: &'a str, shown: &'a str, help: &'a str) -> Arg<'a>
+    ensures rule { rule_of result ≡ option name.now }
+    ensures local { result.global ≡ false }
+{
+    word_of(alloc, name, shown, help).long(name)
+}
+
 fn network_option<'a>(alloc: Global) -> Arg<'a>
     ensures rule { rule_of result ≡ network }
     ensures local { result.global ≡ false }
 {
-    Arg::new(alloc, "network")
-        .long("network")
-        .help(NETWORK_HELP)
-        .value_name("NETWORK")
-        .default_value("racks")
-}
-
-fn ahead_option<'a>(alloc: Global) -> Arg<'a>
-    ensures rule { rule_of result ≡ ahead }
-    ensures local { result.global ≡ false }
-{
-    Arg::new(alloc, "ahead")
-        .long("ahead")
-        .help(AHEAD_HELP)
-        .value_name("N")
+    option_of(alloc, "network", "NETWORK", NETWORK_HELP).default_value("racks")
 }
 
 fn check_command<'a>(alloc: Global) -> Result<Command<'a>, AllocError>
@@ -287,7 +283,7 @@ pub(crate) fn run_command<'a>(alloc: Global) -> Result<Command<'a>, AllocError>
     ensures { IfOk result (λ command. app_of command ≡ run) }
 {
     command_of(alloc, "run", RUN_ABOUT, RUN_TEXTS)
-        .arg(ahead_option(alloc))?
+        .arg(option_of(alloc, "ahead", "N", AHEAD_HELP))?
         .arg(flag_of(alloc, "history", HISTORY_HELP))?
         .arg(flag_of(alloc, "quiet", QUIET_HELP))?
         .arg(flag_of(alloc, "explain", EXPLAIN_HELP))

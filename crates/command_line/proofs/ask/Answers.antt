@@ -1,5 +1,4 @@
-use Rattle.std.proofs.Common.{◌≡◌, None, Option, Some, arith, inl, inr, refl}
-use Rattle.std.proofs.Common.{rules, subst, sym}
+use Rattle.std.proofs.Common.{◌≡◌, None, Option, Some, arith, inl, inr, refl, rules, subst, sym}
 use Rattle.std.proofs.lemmas.Result.{IfOk-weaker}
 use Rattle.std.specs.Prelude.{IfOk, map}
 use Rattle.clap.specs.Walk.{Text, texts}
