@@ -10,7 +10,8 @@
  *
  * What a caller owes, and no status tells:
  *   - a pointer leads to as many elements as its length says, and is aligned for them; where the length is 0
- *     it may be anything, null too; the pointers to a wave, a total and a verdict are never null;
+ *     it may be anything, null too; the pointers to a wave, to prices of places, a total and a verdict are never
+ *     null;
  *   - what a call writes overlaps nothing else that it is given, and until it returns no other thread reads
  *     or writes that, or writes what the call reads;
  *   - no call from a signal handler, or from the child of a fork of a process with several threads;
@@ -51,6 +52,7 @@ extern "C" {
 #define MRJOB_MAX_HOLDERS 16         /* of one split */
 #define MRJOB_MAX_SLOTS 255          /* of one worker: any uint8_t */
 #define MRJOB_MAX_BYTES 8589934592   /* of one split, 8 GiB */
+#define MRJOB_MAX_PLACE_PRICE 68719476736 /* of one place, see below */
 
 /* In a place of a worker or a split: none. Workers and splits are numbered below it. */
 #define MRJOB_NONE 65535
@@ -58,7 +60,8 @@ extern "C" {
 /* ---- what is answered ---- */
 
 /* What a call answers. From MRJOB_BAD_RACKS to MRJOB_BAD_NETWORK it is the first of these that is so, in this
- * order; MRJOB_NO_MEMORY comes only where none of them is. From MRJOB_BAD_RACKS on, nothing was written. */
+ * order; MRJOB_BAD_PLACES comes after these, and MRJOB_NO_MEMORY only where none of all is. From MRJOB_BAD_RACKS on,
+ * nothing was written. */
 enum mrjob_status {
     MRJOB_OK = 0,          /* planned, or certified */
     MRJOB_REFUSED = 1,     /* of a check: a condition fails, which the verdict names */
@@ -70,7 +73,9 @@ enum mrjob_status {
     MRJOB_BAD_LENGTH = 7,  /* not one start and price for each split and one price for each worker */
     MRJOB_BAD_STARTS = 8,  /* of a check: a start on no worker that is not MRJOB_NONE */
     MRJOB_BAD_NETWORK = 9, /* of a plan: no such network, or too many splits or workers for the direct one */
-    MRJOB_NO_MEMORY = 10   /* malloc gave none */
+    MRJOB_NO_MEMORY = 10,  /* malloc gave none */
+    MRJOB_BAD_PLACES = 11  /* not one row of place prices for each worker, or one with too many prices, or with some
+                            * past the last, or with a price that is too great or lower than the one before */
 };
 
 /* Over which network a plan is made. Either gives a best plan; where several are, they may differ. */
@@ -107,6 +112,12 @@ struct mrjob_pair {
 struct mrjob_wide_pair {
     uint32_t split;
     uint32_t worker;
+};
+
+/* The prices of a worker's places: price_count of the prices, from the place first_price on. See below. */
+struct mrjob_place_row {
+    uint32_t first_price;
+    uint32_t price_count;
 };
 
 /* A cluster as one wave sees it: how many data centres there are, and arrays with their lengths. Splits may
@@ -189,9 +200,10 @@ struct mrjob_nothing {
     struct mrjob_pair pairs[1];
     struct mrjob_wide_pair wide_pairs[1];
     uint64_t prices[1];
+    struct mrjob_place_row place_rows[1];
 };
 
-#define MRJOB_NOTHING {{0}, {{0, 0, 0}}, {{0, 0, 0, 0}}, {{0, 0}}, {{0, 0}}, {0}}
+#define MRJOB_NOTHING {{0}, {{0, 0, 0}}, {{0, 0, 0, 0}}, {{0, 0}}, {{0, 0}}, {0}, {{0, 0}}}
 
 static inline struct mrjob_wave mrjob_without_null(const struct mrjob_wave *wave,
                                                    const struct mrjob_nothing *nothing)
@@ -254,6 +266,9 @@ static inline const char *mrjob_status_text(uint32_t status)
     case MRJOB_BAD_STARTS: return "a start on no worker";
     case MRJOB_BAD_NETWORK: return "no such network, or too many splits or workers for the direct one";
     case MRJOB_NO_MEMORY: return "no memory";
+    case MRJOB_BAD_PLACES:
+        return "not one row of place prices for each worker, or one with too many, too great or falling prices, or "
+               "with prices past the last";
     default: return "no status";
     }
 }
@@ -395,6 +410,125 @@ static inline size_t mrjob_unfit_place_wide(const struct mrjob_wide_wave *wave,
     return place;
 }
 
+/* ---- prices of places ---- */
+
+/* The same calls of wide waves where places have prices. The k-th split that starts on a worker takes its k-th place,
+ * and is charged the price of that place beside its byte-distance. A worker's prices do not fall. A place past its last
+ * price costs as much as that; where a worker has no price, its places are free. There is a row for each worker, and
+ * rows may share prices. A row has up to MRJOB_MAX_SLOTS prices, each up to MRJOB_MAX_PLACE_PRICE. */
+struct mrjob_places {
+    const struct mrjob_place_row *rows;
+    size_t rows_len;
+    const uint64_t *prices;
+    size_t prices_len;
+};
+
+/* As of a total, and what the places cost that the starts take. */
+struct mrjob_places_total {
+    uint64_t count;
+    uint64_t cost;
+    uint64_t places;
+};
+
+/* As of a wide verdict, and what the places cost: 0 where a condition fails. */
+struct mrjob_places_verdict {
+    uint64_t count;
+    uint64_t cost;
+    uint64_t places;
+    uint32_t condition;
+    uint32_t split;
+    uint32_t worker;
+};
+
+/* Plans a wide wave, over the network with racks. With MRJOB_OK no set of admissible starts has more, and of those with
+ * as many none has a lesser charge, which is the byte-distance with the prices of the places that are taken; the prices
+ * of splits and workers certify the starts, so that mrjob_check_places says MRJOB_OK; and total is theirs. */
+static inline uint32_t mrjob_plan_places(const struct mrjob_wide_wave *wave, const struct mrjob_places *places,
+                                         uint16_t *starts, size_t starts_len,
+                                         uint64_t *split_prices, size_t split_prices_len,
+                                         uint64_t *worker_prices, size_t worker_prices_len,
+                                         struct mrjob_places_total *total) MRJOB_NAMED("mrjob_plan_places_any");
+
+/* Checks the starts of a wide wave by prices. With MRJOB_OK the prices certify the starts, which are then best by their
+ * charge, as above. With MRJOB_REFUSED a condition fails, as of mrjob_check. */
+static inline uint32_t mrjob_check_places(const struct mrjob_wide_wave *wave, const struct mrjob_places *places,
+                                          const uint16_t *starts, size_t starts_len,
+                                          const uint64_t *split_prices, size_t split_prices_len,
+                                          const uint64_t *worker_prices, size_t worker_prices_len,
+                                          struct mrjob_places_verdict *verdict)
+    MRJOB_NAMED("mrjob_check_places_any");
+
+/* The worker whose row is the first that is not fit, where a call answered MRJOB_BAD_PLACES; MRJOB_NOWHERE where each
+ * row is fit, so that there are too many or too few. */
+static inline size_t mrjob_unfit_place_row(const struct mrjob_places *places);
+
+/* ---- the library's own functions where places have prices ---- */
+
+uint32_t mrjob_plan_places_of_library(const struct mrjob_wide_wave *wave, const struct mrjob_places *places,
+                                      uint16_t *starts, size_t starts_len,
+                                      uint64_t *split_prices, size_t split_prices_len,
+                                      uint64_t *worker_prices, size_t worker_prices_len,
+                                      struct mrjob_places_total *total) MRJOB_NAMED("mrjob_plan_places");
+
+uint32_t mrjob_check_places_of_library(const struct mrjob_wide_wave *wave, const struct mrjob_places *places,
+                                       const uint16_t *starts, size_t starts_len,
+                                       const uint64_t *split_prices, size_t split_prices_len,
+                                       const uint64_t *worker_prices, size_t worker_prices_len,
+                                       struct mrjob_places_verdict *verdict) MRJOB_NAMED("mrjob_check_places");
+
+uint32_t mrjob_unfit_places(const struct mrjob_places *places, size_t *place);
+
+static inline struct mrjob_places mrjob_places_without_null(const struct mrjob_places *places,
+                                                            const struct mrjob_nothing *nothing)
+{
+    struct mrjob_places filled = *places;
+    if (!filled.rows_len) filled.rows = nothing->place_rows;
+    if (!filled.prices_len) filled.prices = nothing->prices;
+    return filled;
+}
+
+static inline uint32_t mrjob_plan_places(const struct mrjob_wide_wave *wave, const struct mrjob_places *places,
+                                         uint16_t *starts, size_t starts_len,
+                                         uint64_t *split_prices, size_t split_prices_len,
+                                         uint64_t *worker_prices, size_t worker_prices_len,
+                                         struct mrjob_places_total *total)
+{
+    const struct mrjob_nothing given = MRJOB_NOTHING;
+    struct mrjob_nothing nothing = MRJOB_NOTHING;
+    const struct mrjob_wide_wave filled = mrjob_wide_without_null(wave, &given);
+    const struct mrjob_places priced = mrjob_places_without_null(places, &given);
+    return mrjob_plan_places_of_library(&filled, &priced,
+                                        starts_len ? starts : nothing.numbers, starts_len,
+                                        split_prices_len ? split_prices : nothing.prices, split_prices_len,
+                                        worker_prices_len ? worker_prices : nothing.prices, worker_prices_len,
+                                        total);
+}
+
+static inline uint32_t mrjob_check_places(const struct mrjob_wide_wave *wave, const struct mrjob_places *places,
+                                          const uint16_t *starts, size_t starts_len,
+                                          const uint64_t *split_prices, size_t split_prices_len,
+                                          const uint64_t *worker_prices, size_t worker_prices_len,
+                                          struct mrjob_places_verdict *verdict)
+{
+    const struct mrjob_nothing nothing = MRJOB_NOTHING;
+    const struct mrjob_wide_wave filled = mrjob_wide_without_null(wave, &nothing);
+    const struct mrjob_places priced = mrjob_places_without_null(places, &nothing);
+    return mrjob_check_places_of_library(&filled, &priced,
+                                         starts_len ? starts : nothing.numbers, starts_len,
+                                         split_prices_len ? split_prices : nothing.prices, split_prices_len,
+                                         worker_prices_len ? worker_prices : nothing.prices, worker_prices_len,
+                                         verdict);
+}
+
+static inline size_t mrjob_unfit_place_row(const struct mrjob_places *places)
+{
+    const struct mrjob_nothing nothing = MRJOB_NOTHING;
+    const struct mrjob_places priced = mrjob_places_without_null(places, &nothing);
+    size_t place = MRJOB_NOWHERE;
+    mrjob_unfit_places(&priced, &place);
+    return place;
+}
+
 /* ---- how the structs lie in memory ---- */
 
 #ifdef __cplusplus
@@ -450,6 +584,25 @@ MRJOB_LIES(mrjob_wide_verdict, cost, 8);
 MRJOB_LIES(mrjob_wide_verdict, condition, 16);
 MRJOB_LIES(mrjob_wide_verdict, split, 20);
 MRJOB_LIES(mrjob_wide_verdict, worker, 24);
+MRJOB_ASSERT(sizeof(struct mrjob_place_row) == 8);
+MRJOB_LIES(mrjob_place_row, first_price, 0);
+MRJOB_LIES(mrjob_place_row, price_count, 4);
+MRJOB_ASSERT(sizeof(struct mrjob_places) == 32);
+MRJOB_LIES(mrjob_places, rows, 0);
+MRJOB_LIES(mrjob_places, rows_len, 8);
+MRJOB_LIES(mrjob_places, prices, 16);
+MRJOB_LIES(mrjob_places, prices_len, 24);
+MRJOB_ASSERT(sizeof(struct mrjob_places_total) == 24);
+MRJOB_LIES(mrjob_places_total, count, 0);
+MRJOB_LIES(mrjob_places_total, cost, 8);
+MRJOB_LIES(mrjob_places_total, places, 16);
+MRJOB_ASSERT(sizeof(struct mrjob_places_verdict) == 40);
+MRJOB_LIES(mrjob_places_verdict, count, 0);
+MRJOB_LIES(mrjob_places_verdict, cost, 8);
+MRJOB_LIES(mrjob_places_verdict, places, 16);
+MRJOB_LIES(mrjob_places_verdict, condition, 24);
+MRJOB_LIES(mrjob_places_verdict, split, 28);
+MRJOB_LIES(mrjob_places_verdict, worker, 32);
 MRJOB_ASSERT(sizeof(struct mrjob_total) == 16);
 MRJOB_LIES(mrjob_total, count, 0);
 MRJOB_LIES(mrjob_total, cost, 8);

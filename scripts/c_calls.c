@@ -282,7 +282,7 @@ static void test_places(void)
     struct mrjob_wide_wave wide;
     memset(&wave, 0, sizeof wave);
     memset(&wide, 0, sizeof wide);
-    for (uint32_t status = 0; status < 12; status++) {
+    for (uint32_t status = 0; status < 13; status++) {
         count(mrjob_unfit_place(&wave, NULL, 0, status) == MRJOB_NOWHERE &&
                   mrjob_unfit_place_wide(&wide, NULL, 0, status) == MRJOB_NOWHERE,
               "in a wave of nothing all is fit");
@@ -292,14 +292,14 @@ static void test_places(void)
 /* Each status has words of its own, and other numbers have none. */
 static void test_texts(void)
 {
-    for (uint32_t status = MRJOB_OK; status <= MRJOB_NO_MEMORY; status++) {
+    for (uint32_t status = MRJOB_OK; status <= MRJOB_BAD_PLACES; status++) {
         int holds = strcmp(mrjob_status_text(status), "no status") != 0;
         for (uint32_t other = MRJOB_OK; other < status; other++) {
             holds &= strcmp(mrjob_status_text(status), mrjob_status_text(other)) != 0;
         }
         count(holds, "a status has words of its own");
     }
-    count(!strcmp(mrjob_status_text(MRJOB_NO_MEMORY + 1), "no status"), "a number that is no status");
+    count(!strcmp(mrjob_status_text(MRJOB_BAD_PLACES + 1), "no status"), "a number that is no status");
     count(!strcmp(mrjob_status_text(MRJOB_BAD_NETWORK),
                   "no such network, or too many splits or workers for the direct one"),
           "the words of a network that is none");
@@ -369,6 +369,189 @@ static void test_refusals(int which)
     }
     printf("call %d: %ld refused allocations are told\n", which, told);
     count(holds && told, "a refused allocation is told, nothing is written, and all is freed");
+}
+
+/* ---- prices of places ---- */
+
+enum { PLAN_PLACES, CHECK_PLACES };
+
+static struct priced {
+    struct mrjob_place_row rows[3];
+    uint64_t prices[257], split_prices[2], worker_prices[2];
+    struct mrjob_places places;
+} priced;
+
+struct priced_answer {
+    uint16_t starts[2];
+    uint64_t split_prices[2], worker_prices[2];
+    struct mrjob_places_total total;
+    struct mrjob_places_verdict verdict;
+};
+
+/* The same wave with two slots on each worker. On the first worker the first place is free and the second costs 50;
+ * on the other one both cost 5. If both splits start on the first, they are charged 0 + 50. So the lesser one starts
+ * on the other, at 40 + 5, and the greater one, which may not, is charged nothing.
+ *
+ * K is 121 + 50 + 10 = 181. Sums: s a 136 + 45 + 0, s b 136 + 5 + 40, t a 136 + 45 + 0, each 181. The price of a, 45,
+ * lies from 0 to 50, and that of b from 5 to 5. */
+static void make_priced(void)
+{
+    static const struct mrjob_place_row rows[] = {{0, 2}, {2, 1}};
+    static const uint64_t prices[] = {0, 50, 5};
+    make();
+    given.workers[0].free = given.workers[1].free = 2;
+    memset(&priced, 0, sizeof priced);
+    memcpy(priced.rows, rows, sizeof rows);
+    memcpy(priced.prices, prices, sizeof prices);
+    priced.split_prices[0] = priced.split_prices[1] = 136;
+    priced.worker_prices[0] = 45, priced.worker_prices[1] = 5;
+    priced.places.rows = priced.rows, priced.places.rows_len = 2;
+    priced.places.prices = priced.prices, priced.places.prices_len = 3;
+}
+
+static uint32_t call_priced(int which, struct priced_answer *answer)
+{
+    const struct mrjob_wide_wave wave = widened();
+    if (which == CHECK_PLACES) {
+        return mrjob_check_places(&wave, &priced.places, given.starts, given.starts_len, priced.split_prices,
+                                  given.split_prices_len, priced.worker_prices, given.worker_prices_len,
+                                  &answer->verdict);
+    }
+    return mrjob_plan_places(&wave, &priced.places, answer->starts, given.starts_len, answer->split_prices,
+                             given.split_prices_len, answer->worker_prices, given.worker_prices_len, &answer->total);
+}
+
+/* Whether the call answers this status and, where that is no answer, writes nothing. */
+static int answers_priced(int which, uint32_t status)
+{
+    struct priced_answer before, after;
+    memset(&before, 0x5a, sizeof before);
+    memcpy(&after, &before, sizeof before);
+    const uint32_t said = call_priced(which, &after);
+    if (said != status) printf("status %u, and not %u\n", (unsigned)said, (unsigned)status);
+    return said == status && (status <= MRJOB_REFUSED || !memcmp(&before, &after, sizeof before));
+}
+
+/* A plan and a check answer this status, and the first row of prices that is not fit is this worker's. */
+static void count_priced(uint32_t status, size_t place, const char *name)
+{
+    count(answers_priced(PLAN_PLACES, status) && answers_priced(CHECK_PLACES, status) &&
+              mrjob_unfit_place_row(&priced.places) == place,
+          name);
+}
+
+static int is_planned(uint16_t first, uint64_t cost, uint64_t places)
+{
+    struct priced_answer answer;
+    memset(&answer, 0x5a, sizeof answer);
+    return call_priced(PLAN_PLACES, &answer) == MRJOB_OK && answer.starts[0] == first && answer.starts[1] == 0 &&
+           answer.total.count == 2 && answer.total.cost == cost && answer.total.places == places;
+}
+
+static int is_refused_at(uint32_t condition, uint32_t split, uint32_t worker)
+{
+    struct priced_answer answer;
+    memset(&answer, 0x5a, sizeof answer);
+    const struct mrjob_places_verdict *told = &answer.verdict;
+    return call_priced(CHECK_PLACES, &answer) == MRJOB_REFUSED && told->condition == condition &&
+           told->split == split && told->worker == worker && !told->count && !told->cost && !told->places;
+}
+
+static void test_priced_answers(void)
+{
+    struct priced_answer answer;
+    make_priced(), count(is_planned(1, 40, 5), "a place that costs 45 less is taken");
+    priced.prices[1] = 44, count(is_planned(0, 0, 44), "places that cost 44 are taken for no distance");
+    priced.places.rows_len = 0, count_priced(MRJOB_BAD_PLACES, MRJOB_NOWHERE, "no row for two workers");
+    make_priced(), priced.rows[1] = priced.rows[0], count(is_planned(1, 40, 0), "two workers share their prices");
+    priced.rows[0].price_count = priced.rows[1].price_count = 0, count(is_planned(0, 0, 0), "all places are free");
+    make_priced(), priced.rows[0].first_price = 1, priced.rows[0].price_count = 1;
+    count(is_planned(1, 40, 55), "a place past the last price costs as much as that");
+    make_priced(), priced.prices[1] = MRJOB_MAX_PLACE_PRICE, count(is_planned(1, 40, 5), "the greatest price");
+    make_priced();
+    count(call_priced(CHECK_PLACES, &answer) == MRJOB_OK && answer.verdict.count == 2 && answer.verdict.cost == 40 &&
+              answer.verdict.places == 5 && answer.verdict.condition == 0 &&
+              answer.verdict.split == MRJOB_WIDE_NONE && answer.verdict.worker == MRJOB_WIDE_NONE,
+          "the plan is certified with what its places cost");
+    priced.worker_prices[1] = 4, priced.split_prices[0] = 137;
+    count(is_refused_at(8, MRJOB_WIDE_NONE, 1), "a price below that of the place taken is refused");
+    priced.worker_prices[1] = 6, priced.split_prices[0] = 135, priced.worker_prices[0] = 46;
+    priced.split_prices[1] = 135;
+    count(is_refused_at(8, MRJOB_WIDE_NONE, 1), "a price above that of the place left is refused");
+    make_priced(), priced.worker_prices[0] = 51, priced.split_prices[1] = 130;
+    count(is_refused_at(8, MRJOB_WIDE_NONE, 0), "so it is of the other worker");
+    make_priced(), given.starts[0] = 0;
+    count(is_refused_at(8, MRJOB_WIDE_NONE, 0), "another plan with the prices of the best one is refused");
+    make_priced(), given.starts[1] = 1, count(is_refused_at(2, 1, 1), "a barred start is refused");
+}
+
+static void test_priced_statuses(void)
+{
+    make_priced(), priced.places.rows_len = 3;
+    count_priced(MRJOB_BAD_PLACES, MRJOB_NOWHERE, "three rows for two workers");
+    make_priced(), priced.prices[1] = MRJOB_MAX_PLACE_PRICE + 1;
+    count_priced(MRJOB_BAD_PLACES, 0, "a price that is too great");
+    priced.prices[1] = UINT64_MAX, count_priced(MRJOB_BAD_PLACES, 0, "the greatest number as a price");
+    make_priced(), priced.rows[1].first_price = 1, priced.rows[1].price_count = 2;
+    count_priced(MRJOB_BAD_PLACES, 1, "a price that falls");
+    make_priced(), priced.rows[1].price_count = 2, count_priced(MRJOB_BAD_PLACES, 1, "a price past the last");
+    priced.rows[1].first_price = UINT32_MAX, count_priced(MRJOB_BAD_PLACES, 1, "a price far past the last");
+    priced.rows[0].price_count = UINT32_MAX, count_priced(MRJOB_BAD_PLACES, 0, "the first of two rows");
+    make_priced(), memset(priced.prices, 0, sizeof priced.prices), priced.places.prices_len = 257;
+    priced.rows[1].first_price = 0, priced.rows[1].price_count = 256;
+    count_priced(MRJOB_BAD_PLACES, 1, "256 prices of a worker");
+    priced.rows[1].price_count = 255, count(is_planned(0, 0, 0), "255 prices of a worker");
+    make_priced(), priced.rows[1].price_count = 2, given.starts_len = 1, given.starts[0] = 7, given.holders[0] = 7;
+    count_priced(MRJOB_BAD_HOLDERS, 1, "of many faults that of the holders comes first");
+    given.holders[0] = 0, count_priced(MRJOB_BAD_LENGTH, 1, "of many faults that of the lengths comes first");
+    given.starts_len = 2;
+    count(answers_priced(CHECK_PLACES, MRJOB_BAD_STARTS) && answers_priced(PLAN_PLACES, MRJOB_BAD_PLACES),
+          "starts are tested before places");
+    make_priced(), given.splits[0].bytes = UINT64_MAX, count_priced(MRJOB_BAD_SPLITS, MRJOB_NOWHERE, "a great split");
+}
+
+/* Without a worker and a price, by null and by an address that is not aligned. */
+static void test_priced_nothing(void)
+{
+    static char bytes[16];
+    for (int odd = 0; odd < 2; odd++) {
+        void *none = odd ? (void *)(bytes + 1) : NULL;
+        uint16_t *starts = (uint16_t *)none;
+        uint64_t *prices = (uint64_t *)none;
+        struct mrjob_wide_wave wave;
+        memset(&wave, 0, sizeof wave);
+        const struct mrjob_places places = {(struct mrjob_place_row *)none, 0, prices, 0};
+        struct mrjob_places_total total = {7, 7, 7};
+        struct mrjob_places_verdict verdict = {7, 7, 7, 7, 7, 7};
+        count(mrjob_plan_places(&wave, &places, starts, 0, prices, 0, prices, 0, &total) == MRJOB_OK &&
+                  !total.count && !total.cost && !total.places &&
+                  mrjob_check_places(&wave, &places, starts, 0, prices, 0, prices, 0, &verdict) == MRJOB_OK &&
+                  !verdict.count && !verdict.places && mrjob_unfit_place_row(&places) == MRJOB_NOWHERE,
+              "nothing is planned and certified in no places");
+    }
+}
+
+/* Refuses each allocation of a call in turn, as above. */
+static void test_priced_refusals(int which)
+{
+    struct priced_answer whole, before, after;
+    make_priced();
+    memset(&before, 0x5a, sizeof before);
+    memcpy(&whole, &before, sizeof before);
+    int holds = call_priced(which, &whole) == MRJOB_OK;
+    long told = 0;
+    for (long nth = 0;; nth++) {
+        memcpy(&after, &before, sizeof before);
+        refused = held = 0, counts_blocks = 1, left = nth;
+        const uint32_t status = call_priced(which, &after);
+        left = -1, counts_blocks = 0;
+        holds &= held == 0 && !memcmp(&after, status == MRJOB_OK ? &whole : &before, sizeof before);
+        holds &= status == MRJOB_OK || (status == MRJOB_NO_MEMORY && refused);
+        told += status == MRJOB_NO_MEMORY;
+        if (!refused) break;
+    }
+    printf("call %d with places: %ld refused allocations are told\n", which, told);
+    count(holds && told, "a refused allocation of a call with places is told, and all is freed");
 }
 
 /* ---- threads ---- */
@@ -630,8 +813,12 @@ int main(void)
     test_places();
     test_texts();
     test_nothing();
+    test_priced_answers();
+    test_priced_statuses();
+    test_priced_nothing();
     for (stays_refused = 0; stays_refused < 2; stays_refused++) {
         for (int which = PLAN_RACKS; which <= CHECK; which++) test_refusals(which);
+        for (int which = PLAN_PLACES; which <= CHECK_PLACES; which++) test_priced_refusals(which);
     }
     test_threads();
     count_threads(1, take_most, "the most is taken in a small stack");

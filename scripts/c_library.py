@@ -5,8 +5,9 @@
 
 Made problems, the same in each run, are planned and checked by names and by arrays, over both networks: count and
 cost have to be those of reference_check.py and of `mrjob plan`, and a verdict with its place those of the reference
-and of `mrjob check`, of the same problem as text. Then waves of up to 131,072 splits, four threads at once, and the
-names that the library shows. python_package.py tries what the package adds. The last line is 'N passed, M failed'.
+and of `mrjob check`, of the same problem as text. So it is of problems in which places have prices, whose plan has to
+be charged as little as an assignment to single slots. Then waves of up to 131,072 splits, four threads at once, and
+the names that the library shows. python_package.py tries what the package adds. The last line is 'N passed, M failed'.
 """
 import ctypes
 import os
@@ -66,18 +67,40 @@ def rows(scenario, yes):
     return arrays.Wave(scenario.centres, scenario.centre_of, workers, splits, holders, scenario.barred)
 
 
+def named_places(scenario):
+    """The prices of places by the names of workers, where there are some."""
+    return {f"w{w}": it for w, it in scenario.places.items()} or None
+
+
+def place_rows(scenario):
+    """The same by numbers. Rows of the same prices share them."""
+    first, prices, of_workers = {}, [], []
+    for w in range(scenario.workers):
+        own = tuple(scenario.places.get(w, ()))
+        if own not in first:
+            first[own] = len(prices)
+            prices += own
+        of_workers.append((first[own], len(own)))
+    return arrays.Places(of_workers, prices) if scenario.places else None
+
+
+def figures(scenario, found):
+    """Count and cost, and what the places cost where they have prices."""
+    return [found.count, found.cost, *[found.places] * bool(scenario.places)]
+
+
 def by_names(scenario, network):
-    """A plan of the scenario: its starts, prices of splits and of workers, count and cost."""
-    best = plan(*named(scenario), network)
+    """A plan of the scenario: its starts, prices of splits and of workers, and figures."""
+    best = plan(*named(scenario), network, places=named_places(scenario))
     starts = [best.starts.get(f"s{s}") for s in range(scenario.splits)]
     starts = [None if it is None else int(it[1:]) for it in starts]
-    return starts, [*best.prices.splits.values()], [*best.prices.workers.values()], best.count, best.cost
+    return starts, [*best.prices.splits.values()], [*best.prices.workers.values()], *figures(scenario, best)
 
 
 def by_numbers(scenario, network):
-    best = arrays.plan(rows(scenario, 2), network)
+    best = arrays.plan(rows(scenario, 2), network, places=place_rows(scenario))
     starts = [None if it == arrays.NONE else it for it in best.starts]
-    return starts, [*best.split_prices], [*best.worker_prices], best.count, best.cost
+    return starts, [*best.split_prices], [*best.worker_prices], *figures(scenario, best)
 
 
 def checked_by_names(scenario):
@@ -87,16 +110,17 @@ def checked_by_names(scenario):
         {f"s{s}": it for s, it in enumerate(scenario.split_price)},
         {f"w{w}": it for w, it in enumerate(scenario.worker_price)},
     )
-    verdict = check(*named(scenario), started, prices)
+    verdict = check(*named(scenario), started, prices, places=named_places(scenario))
     if verdict:
-        return f"certified {verdict.count} {verdict.cost}"
+        return " ".join(["certified", *map(str, figures(scenario, verdict))])
     return " ".join([f"refused C{verdict.condition}", *(it for it in (verdict.split, verdict.worker) if it)])
 
 
 def checked_by_numbers(scenario):
-    verdict = arrays.check(rows(scenario, 255), scenario.starts, scenario.split_price, scenario.worker_price)
+    given = scenario.starts, scenario.split_price, scenario.worker_price
+    verdict = arrays.check(rows(scenario, 255), *given, place_rows(scenario))
     if verdict:
-        return f"certified {verdict.count} {verdict.cost}"
+        return " ".join(["certified", *map(str, figures(scenario, verdict))])
     places = [f"{kind}{it}" for kind, it in (("s", verdict.split), ("w", verdict.worker)) if it is not None]
     return " ".join([f"refused C{verdict.condition}", *places])
 
@@ -119,6 +143,11 @@ def wrong(seed):
             text = make_texts.text_of(scenario.lines(rnd))
             if reference_check.answer(text)[1] != 0:
                 return f"{planned.__name__}: the reference says {reference_check.answer(text)}"
+    return wrong_check(rnd, scenario)
+
+
+def wrong_check(rnd, scenario):
+    """What is wrong with what a check says of the scenario once it is changed, or None."""
     for _ in range(rnd.randint(0, 3)):
         scenario.change(rnd)
     text = make_texts.text_of(scenario.lines(rnd))
@@ -132,7 +161,31 @@ def wrong(seed):
     return None
 
 
-def agrees():
+def least_charge(scenario):
+    """How many splits a plan by an assignment to single slots starts, and what it is charged."""
+    scenario.plan()
+    started = [(s, w) for s, w in enumerate(scenario.starts) if w is not None]
+    taken = (scenario.place_price(w, k) for w in range(scenario.workers) for k in range(scenario.starts.count(w)))
+    return len(started), sum(scenario.cost(*it) for it in started) + sum(taken)
+
+
+def wrong_placed(seed):
+    """What is wrong with the answers to one made problem in which places have prices, or None."""
+    rnd = random.Random(seed)
+    scenario = make_texts.Placed(rnd)
+    wanted = least_charge(scenario)
+    for planned in (by_names, by_numbers):
+        starts, split_prices, worker_prices, *total = planned(scenario, Network.RACKS)
+        if (total[0], sum(total[1:])) != wanted:
+            return f"{planned.__name__}: {total}, and by an assignment {wanted}"
+        scenario.starts, scenario.split_price, scenario.worker_price = starts, split_prices, worker_prices
+        said = reference_check.answer(make_texts.text_of(scenario.lines(rnd)))
+        if said != (f"certified {' '.join(map(str, total))}\n".encode(), 0):
+            return f"{planned.__name__}: {total}, and the reference says {said}"
+    return wrong_check(rnd, scenario)
+
+
+def agrees(wrong=wrong):
     with ThreadPoolExecutor(os.cpu_count()) as pool:
         found = list(pool.map(wrong, range(1, COUNT + 1)))
     differ = [seed for seed, it in enumerate(found, 1) if it]
@@ -140,6 +193,10 @@ def agrees():
     for seed in differ[:3]:
         print(f"  seed {seed}: {found[seed - 1]}")
     return not differ
+
+
+def agrees_with_places():
+    return agrees(wrong_placed)
 
 
 def many():
@@ -181,13 +238,13 @@ def shown():
     is_there = lambda name: hasattr(ctypes.CDLL(library.place()), name)
     names = exported(ROOT / "lib/libmrjob.a")
     calls = {"mrjob_plan", "mrjob_check", "mrjob_unfit"}
-    ours = {"mrjob_version", *calls, *(f"{it}_wide" for it in calls)}
+    ours = {"mrjob_version", *calls, *(f"{it}_{kind}" for it in calls for kind in ("wide", "places"))}
     return ours < set(names) and all(is_there(it) == (it in ours) for it in names) or print(names)
 
 
 def main():
     passed = failed = 0
-    for test in (agrees, many, threads, shown):
+    for test in (agrees, agrees_with_places, many, threads, shown):
         holds = bool(test())
         print(f"{test.__name__}: {'ok' if holds else 'FAILED'}", flush=True)
         passed, failed = passed + holds, failed + (not holds)

@@ -13,6 +13,8 @@ int scheduler::mrjob_check(int count) const { return count + 2; }
 static mrjob_wave wave;
 static mrjob_wide_wave wide;
 static mrjob_wide_verdict told = {7, 7, 7, 7, 7};
+static mrjob_places free_places;
+static mrjob_places_verdict charged = {7, 7, 7, 7, 7, 7};
 static mrjob_total total = {7, 7};
 static mrjob_verdict verdict = {7, 7, 7, 7, 7};
 
@@ -35,6 +37,11 @@ int main()
     if (!is_empty(mrjob_plan_wide(&wide, MRJOB_RACKS, nullptr, 0, nullptr, 0, nullptr, 0, &total))) return 6;
     const auto checks_wide = &mrjob_check_wide;
     if (checks_wide(&wide, nullptr, 0, nullptr, 0, nullptr, 0, &told) != MRJOB_OK || told.condition) return 7;
+    const auto checks_places = &mrjob_check_places;
+    if (checks_places(&wide, &free_places, nullptr, 0, nullptr, 0, nullptr, 0, &charged) != MRJOB_OK) return 8;
+    mrjob_places_total sum = {7, 7, 7};
+    if (mrjob_plan_places(&wide, &free_places, nullptr, 0, nullptr, 0, nullptr, 0, &sum) != MRJOB_OK) return 9;
+    if (charged.count || charged.places || charged.condition || sum.count || sum.cost || sum.places) return 10;
     std::thread(mrjob_plan, &wave, uint32_t{MRJOB_RACKS}, nullptr, 0, nullptr, 0, nullptr, 0, &total).join();
     return is_empty(MRJOB_OK) ? 0 : 5;
 }

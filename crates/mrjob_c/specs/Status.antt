@@ -4,10 +4,12 @@ use Rattle.direct_network.specs.declared.network.TheConstants.{MAX_SPLITS, MAX_W
 use Rattle.wave_arrays.specs.declared.fit.RowsError.TheVariants.{Racks, Workers, Splits, Bars, Holders}
 use Rattle.wave_arrays.specs.declared.array_rows.WaveRows.{WaveRows}
 use Rattle.wave_arrays.specs.Claims.{AreStartsFit}
+use Rattle.wave_arrays.specs.declared.place_rows.PlaceRows.{PlaceRows}
+use Rattle.wave_arrays.specs.PlacePrices.{ArePlacesFit}
 use Rattle.wave_arrays.specs.Refusals.{IsRefusal}
 use Rattle.wave_arrays.specs.Rows.{AreFit}
 use Rattle.mrjob_c.specs.declared.status.Fault.{Fault}
-use Rattle.mrjob_c.specs.declared.status.Fault.TheVariants.{Rows, Length, Starts, Network, Memory}
+use Rattle.mrjob_c.specs.declared.status.Fault.TheVariants.{Rows, Length, Starts, Network, Places, Memory}
 
 abbrev pub status_of : Fault → ℕ
 status_of (Rows Racks) = 2
@@ -19,6 +21,7 @@ status_of Length = 7
 status_of Starts = 8
 status_of Network = 9
 status_of Memory = 10
+status_of Places = 11
 
 -- the starts and the prices of splits are as many as the splits, the prices of workers as the workers
 pub record AreSized (rows : WaveRows) (starts splits workers : ℕ) : Type 0 where
@@ -55,6 +58,7 @@ IsFaultOfPlan rows network starts splits workers Length =
 IsFaultOfPlan rows network starts splits workers Starts = ⊥
 IsFaultOfPlan rows network starts splits workers Network =
     AreFit rows × AreSized rows starts splits workers × (IsNetworkFor rows network → ⊥)
+IsFaultOfPlan rows network starts splits workers Places = ⊥
 IsFaultOfPlan rows network starts splits workers Memory = IsPlanFit rows network starts splits workers
 
 -- so it is of what a check is given
@@ -66,6 +70,7 @@ IsFaultOfCheck rows starts splits workers Starts =
     AreFit rows × AreSized rows (length starts) splits workers
     × (AreStartsFit (length rows.workers.now) starts → ⊥)
 IsFaultOfCheck rows starts splits workers Network = ⊥
+IsFaultOfCheck rows starts splits workers Places = ⊥
 IsFaultOfCheck rows starts splits workers Memory = IsCheckFit rows starts splits workers
 
 -- the status is the number of a fault that is so
@@ -78,3 +83,53 @@ pub record TellsCheckFault (rows : WaveRows) (starts : List ℕ) (splits workers
   pub fault : Fault
   pub number : status ≡ status_of fault
   pub is_so : IsFaultOfCheck rows starts splits workers fault
+
+-- ---- where places have prices
+
+-- all that a plan is given is in order
+pub record IsPlacesPlanFit (rows : WaveRows) (places : PlaceRows) (starts splits workers : ℕ) : Type 0 where
+  pub rows_fit : AreFit rows
+  pub sized : AreSized rows starts splits workers
+  pub places_fit : ArePlacesFit (length rows.workers.now) places
+
+-- all that a check is given is in order
+pub record IsPlacesCheckFit (rows : WaveRows) (places : PlaceRows) (starts : List ℕ) (splits workers : ℕ) : Type 0
+  where
+    pub check_fit : IsCheckFit rows starts splits workers
+    pub places_fit : ArePlacesFit (length rows.workers.now) places
+
+-- what a plan is given has this fault and none before it
+abbrev pub IsFaultOfPlacesPlan : WaveRows → PlaceRows → ℕ → ℕ → ℕ → Fault → Type 0
+IsFaultOfPlacesPlan rows places starts splits workers (Rows e) = IsRefusal rows e
+IsFaultOfPlacesPlan rows places starts splits workers Length =
+    AreFit rows × (AreSized rows starts splits workers → ⊥)
+IsFaultOfPlacesPlan rows places starts splits workers Starts = ⊥
+IsFaultOfPlacesPlan rows places starts splits workers Network = ⊥
+IsFaultOfPlacesPlan rows places starts splits workers Places =
+    AreFit rows × AreSized rows starts splits workers × (ArePlacesFit (length rows.workers.now) places → ⊥)
+IsFaultOfPlacesPlan rows places starts splits workers Memory = IsPlacesPlanFit rows places starts splits workers
+
+-- so it is of what a check is given: the faults of a check without prices of places come first
+abbrev pub IsFaultOfPlacesCheck : WaveRows → PlaceRows → List ℕ → ℕ → ℕ → Fault → Type 0
+IsFaultOfPlacesCheck rows places starts splits workers (Rows e) = IsRefusal rows e
+IsFaultOfPlacesCheck rows places starts splits workers Length =
+    IsFaultOfCheck rows starts splits workers Length
+IsFaultOfPlacesCheck rows places starts splits workers Starts =
+    IsFaultOfCheck rows starts splits workers Starts
+IsFaultOfPlacesCheck rows places starts splits workers Network = ⊥
+IsFaultOfPlacesCheck rows places starts splits workers Places =
+    IsCheckFit rows starts splits workers × (ArePlacesFit (length rows.workers.now) places → ⊥)
+IsFaultOfPlacesCheck rows places starts splits workers Memory = IsPlacesCheckFit rows places starts splits workers
+
+-- the status is the number of a fault that is so
+pub record TellsPlacesPlanFault (rows : WaveRows) (places : PlaceRows) (starts splits workers status : ℕ) : Type 0
+  where
+    pub fault : Fault
+    pub number : status ≡ status_of fault
+    pub is_so : IsFaultOfPlacesPlan rows places starts splits workers fault
+
+pub record TellsPlacesCheckFault (rows : WaveRows) (places : PlaceRows) (starts : List ℕ)
+    (splits workers status : ℕ) : Type 0 where
+  pub fault : Fault
+  pub number : status ≡ status_of fault
+  pub is_so : IsFaultOfPlacesCheck rows places starts splits workers fault

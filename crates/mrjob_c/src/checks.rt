@@ -1,16 +1,18 @@
 //! A check of a plan by its prices.
-ghost use Rattle.std.specs.Prelude.{◌≡◌, ◌<◌, ◌≤◌, ◌^◌, length, IfErr, IfOk, IfSome, IsErr};
+ghost use Rattle.std.specs.Prelude.{◌≡◌, ◌<◌, ◌≤◌, ◌^◌, length, map, IfErr, IfOk, IfSome, IsErr};
 ghost use Rattle.std.specs.Prelude.{IsOk, OnOk};
-ghost use Rattle.price_certificate.specs.Certificate.{claim, HasOneSize};
-ghost use Rattle.wave_arrays.specs.Rows.{narrow_rows, wide_rows};
+ghost use Rattle.price_certificate.specs.Certificate.{charged_claim, claim, HasOneSize};
+ghost use Rattle.wave_arrays.specs.Claims.{prices_in, start_in};
+ghost use Rattle.wave_arrays.specs.Rows.{narrow_rows, wave_in, wide_rows};
 ghost use Rattle.mrjob_c.specs.Status.{IsCheckFit, IsFaultOfCheck, TellsCheckFault};
-ghost use Rattle.mrjob_c.specs.Checks.{claim_in, condition_of, IsCertifiedBy, IsJudged, IsRefusedBy};
+ghost use Rattle.mrjob_c.specs.Checks.{claim_in, condition_of, IsCertifiedBy, IsJudged, IsJudgedWith};
+ghost use Rattle.mrjob_c.specs.Checks.{IsRefusedBy};
 ghost use Rattle.mrjob_c.specs.Checks.{narrow_finding, number_of, split_in, Tells, wide_finding, worker_in};
 
 use crate::status::{Fault, OK, REFUSED, are_sized, status_of};
-use certificate_checker::{Certified, certify};
+use certificate_checker::{Certified, certify_places};
 use node_ids::{SplitNo, WorkerNo};
-use price_certificate::{Condition, Prices};
+use price_certificate::{Condition, PlacePrices, Prices};
 use std::alloc::{AllocError, Global};
 use wave_arrays::{
     NarrowWave, WaveRows, WideWave, are_starts_fit, build_problem, plan_of, prices_of, test_rows,
@@ -109,7 +111,7 @@ pub extern "C" fn mrjob_check_wide(
     }
 }
 
-fn status_of_outcome(outcome: &Result<Certified, Condition>) -> u32
+pub(crate) fn status_of_outcome(outcome: &Result<Certified, Condition>) -> u32
     ensures certified { result ≡ 0 → IsOk outcome.now }
     ensures refused { result ≡ 1 → IsErr outcome.now }
     ensures within { result ≤ 1 }
@@ -117,7 +119,8 @@ fn status_of_outcome(outcome: &Result<Certified, Condition>) -> u32
     if outcome.is_ok() { OK } else { REFUSED }
 }
 
-// Checks starts by prices, and tells the count and the cost, or the first condition that fails.
+// Checks starts by prices where all places are free, and tells the count and the cost, or the first condition
+// that fails.
 fn check(
     alloc: Global,
     rows: &WaveRows<'_>,
@@ -135,7 +138,8 @@ fn check(
         (IsFaultOfCheck rows.now starts.now (length split_prices.now) (length worker_prices.now)) }
 {
     test_arrays(rows, starts, split_prices.len(), worker_prices.len())?;
-    match judge(alloc, rows, starts, split_prices, worker_prices) {
+    let unpriced = PlacePrices::free(alloc);
+    match judge(alloc, rows, &unpriced, starts, split_prices, worker_prices) {
         Ok(outcome) => Ok(outcome),
         Err(_) => Err(Fault::Memory),
     }
@@ -162,37 +166,41 @@ fn test_arrays(
     Ok(())
 }
 
-fn judge(
+// The outcome of a check where places have these prices.
+pub(crate) fn judge(
     alloc: Global,
     rows: &WaveRows<'_>,
+    places: &PlacePrices,
     starts: &[u16],
     split_prices: &[u64],
     worker_prices: &[u64],
 ) -> Result<Result<Certified, Condition>, AllocError>
     requires { IsCheckFit rows.now starts.now (length split_prices.now) (length worker_prices.now) }
     ensures judged { IfOk result
-        (IsJudged (claim_in rows.now starts.now split_prices.now worker_prices.now)) }
+        (IsJudgedWith (charged_claim (wave_in rows.now) places.now (map start_in starts.now)
+        (prices_in split_prices.now worker_prices.now))) }
     ensures at_a_split { IfOk result (λ outcome.
         IfErr outcome (λ c. IfSome (split_in c) (λ s. s < length rows.now.splits.now))) }
 {
     let prices = prices_of(alloc, split_prices, worker_prices)?;
     let plan = plan_of(alloc, starts, rows.workers.len())?;
     let problem = build_problem(alloc, rows)?;
-    Ok(certify_within(alloc, &problem, &plan, &prices))
+    Ok(certify_within(alloc, &problem, places, &plan, &prices))
 }
 
 // The outcome of a check, whose condition is of one of the splits if it is of a split.
 fn certify_within(
     alloc: Global,
     problem: &Problem,
+    places: &PlacePrices,
     plan: &Plan,
     prices: &Prices,
 ) -> Result<Certified, Condition>
     requires { HasOneSize (claim problem.now plan.now.starts prices.now) plan.now.workers }
-    ensures judged { IsJudged (claim problem.now plan.now.starts prices.now) result }
+    ensures judged { IsJudgedWith (charged_claim problem.now places.now plan.now.starts prices.now) result }
     ensures at_a_split { IfErr result (λ c. IfSome (split_in c) (λ s. s < length problem.now.splits)) }
 {
-    certify(alloc, problem, plan, prices)
+    certify_places(alloc, problem, places, plan, prices)
 }
 
 // The number of a condition, and the split and the worker that it is of.
@@ -256,7 +264,7 @@ fn narrow_verdict(outcome: Result<Certified, Condition>) -> Verdict
     }
 }
 
-fn wide_verdict(outcome: Result<Certified, Condition>) -> WideVerdict
+pub(crate) fn wide_verdict(outcome: Result<Certified, Condition>) -> WideVerdict
     ensures { Tells (wide_finding result) outcome }
 {
     match outcome {

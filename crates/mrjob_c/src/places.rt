@@ -1,11 +1,13 @@
 //! Where the rows are not fit for which a call writes nothing.
 ghost use Rattle.std.specs.Prelude.{◌≡◌, ◌≤◌, IsSome, None, Some};
+ghost use Rattle.wave_arrays.specs.PlacePrices.{IsPlaceRowFit};
+ghost use Rattle.wave_arrays.specs.Places.{IsFirstUnfit};
 ghost use Rattle.wave_arrays.specs.Rows.{narrow_rows, wide_rows};
 ghost use Rattle.mrjob_c.specs.Places.{IsUnfitAt};
 
 use wave_arrays::{
-    NarrowWave, WaveRows, WideWave, unfit_holders, unfit_pair, unfit_rack, unfit_split,
-    unfit_start, unfit_worker,
+    NarrowWave, PlaceRows, WaveRows, WideWave, unfit_holders, unfit_pair, unfit_place_row,
+    unfit_rack, unfit_split, unfit_start, unfit_worker,
 };
 
 /// Tells where the first row stands that is not fit, of the kind that a status is of: 1 where there is one,
@@ -22,7 +24,7 @@ pub extern "C" fn mrjob_unfit(
     ensures kept { result ≡ 0 → place.new ≡ place.old }
     ensures within { result ≤ 1 }
 {
-    tell_unfit(&wave.rows(), starts, status, place)
+    tell(first_unfit(&wave.rows(), starts, status), place)
 }
 
 /// The same of a wide wave.
@@ -38,16 +40,28 @@ pub extern "C" fn mrjob_unfit_wide(
     ensures kept { result ≡ 0 → place.new ≡ place.old }
     ensures within { result ≤ 1 }
 {
-    tell_unfit(&wave.rows(), starts, status, place)
+    tell(first_unfit(&wave.rows(), starts, status), place)
 }
 
-fn tell_unfit(rows: &WaveRows<'_>, starts: &[u16], status: u32, place: &mut usize) -> u32
-    ensures found { result ≡ 1 → IsUnfitAt rows.now starts.now status (Some place.new) }
-    ensures none { result ≡ 0 → IsUnfitAt rows.now starts.now status None }
+/// Tells where the first row of prices of places stands that is not fit, in the same way.
+#[unsafe(no_mangle)]
+pub extern "C" fn mrjob_unfit_places(places: &PlaceRows<'_>, place: &mut usize) -> u32
+    ensures found { result ≡ 1
+        → IsFirstUnfit (IsPlaceRowFit places.now.prices.now) places.now.rows.now (Some place.new) }
+    ensures none { result ≡ 0 → IsFirstUnfit (IsPlaceRowFit places.now.prices.now) places.now.rows.now None }
     ensures kept { result ≡ 0 → place.new ≡ place.old }
     ensures within { result ≤ 1 }
 {
-    match first_unfit(rows, starts, status) {
+    tell(unfit_place_row(places), place)
+}
+
+fn tell(found: Option<usize>, place: &mut usize) -> u32
+    ensures found { result ≡ 1 → found ≡ Some place.new }
+    ensures none { result ≡ 0 → found ≡ None }
+    ensures kept { result ≡ 0 → place.new ≡ place.old }
+    ensures within { result ≤ 1 }
+{
+    match found {
         Some(found) => {
             *place = found;
             1

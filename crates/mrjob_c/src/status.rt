@@ -19,6 +19,8 @@ pub(crate) enum Fault {
     Starts,
     // There is no such network, or it is the direct one, and that is not made for so many splits or workers.
     Network,
+    // There is not one row of prices of places for each worker, or one is not fit.
+    Places,
     // There is no memory.
     Memory,
 }
@@ -27,7 +29,7 @@ pub(crate) enum Fault {
 pub(crate) fn status_of(fault: Fault) -> u32
     ensures number { result ≡ status_of fault }
     ensures least { 2 ≤ result }
-    ensures most { result ≤ 10 }
+    ensures most { result ≤ 11 }
 {
     match fault {
         Fault::Rows(RowsError::Racks) => 2,
@@ -39,6 +41,7 @@ pub(crate) fn status_of(fault: Fault) -> u32
         Fault::Starts => 8,
         Fault::Network => 9,
         Fault::Memory => 10,
+        Fault::Places => 11,
     }
 }
 

@@ -1,3 +1,4 @@
 mod Bars
 mod Limits
+mod PlaceLists
 mod Unfit
