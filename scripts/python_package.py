@@ -123,6 +123,7 @@ def wave_of(splits, workers):
     return arrays.Wave(256, racks, stands, [split] * splits, range(16), [(splits - 1, workers - 1)])
 
 
+FREE = arrays.Places([(0, 0)], [])
 ONE = (Cluster([Worker(0)]), [Split(10, [0])])
 ZERO = Prices([0], [0])
 UNFIT_CALLS = [
@@ -156,6 +157,31 @@ UNFIT_CALLS = [
     (lambda: plan(CLUSTER, {"s": Split(1, ["a", "a"])}), Status.BAD_HOLDERS, "split 's': worker 'a' holds it twice"),
     (lambda: plan(CLUSTER, {"s": Split(1, ["n"])}), Status.BAD_HOLDERS, "split 's': holder 'n' is no worker"),
     (lambda: plan(CLUSTER, {"s": Split(1, barred=["n"])}), Status.BAD_BARRED, "split 's': barred 'n' is no worker"),
+    (lambda: arrays.plan(WAVE, 1, places=FREE), Status.BAD_NETWORK,
+     "network 1, and where places have prices it is 0, over racks"),
+    (lambda: arrays.plan(WAVE, places=arrays.Places([], [])), Status.BAD_PLACES,
+     "0 rows of place prices, and 1 workers"),
+    (lambda: arrays.plan(WAVE, places=arrays.Places([(0, 256)], [0] * 256)), Status.BAD_PLACES,
+     "worker 0: 256 prices of places, at most 255"),
+    (lambda: arrays.plan(WAVE, places=arrays.Places([(1, 2)], [0, 0])), Status.BAD_PLACES,
+     "worker 0: prices from 1 up to 3, and there are 2"),
+    (lambda: arrays.plan(WAVE, places=arrays.Places([(2**32, 1)], [0])), Status.BAD_PLACES,
+     "worker 0: prices from 4,294,967,296 up to 4,294,967,297, and there are 1"),
+    (lambda: arrays.check(WAVE, [0], [0], [0], arrays.Places([(0, 1)], [2**36 + 1])), Status.BAD_PLACES,
+     "worker 0: 68,719,476,737 for a place, at most 68,719,476,736"),
+    (lambda: arrays.check(WAVE, [0], [0], [0], arrays.Places([(0, 1)], [-1])), Status.BAD_PLACES,
+     "worker 0: -1 for a place, at least 0"),
+    (lambda: arrays.check(WAVE, [0], [0], [0], arrays.Places([(0, 3)], [3, 3, 2])), Status.BAD_PLACES,
+     "worker 0: a place at 2 after one at 3"),
+    (lambda: arrays.check(WAVE, [1], [0], [0], arrays.Places([], [])), Status.BAD_STARTS,
+     "split 0: there is no worker 1 among 1"),
+    (lambda: plan(CLUSTER, SPLITS, places={"b": [5, 4]}), Status.BAD_PLACES, "worker 'b': a place at 4 after one at 5"),
+    (lambda: plan(CLUSTER, SPLITS, places={"n": [5]}), Status.BAD_PLACES, "places: 'n' is no worker"),
+    (lambda: plan(CLUSTER, SPLITS, places=[[5]]), Status.BAD_PLACES, "1 rows of place prices, and 2 workers"),
+    (lambda: check(CLUSTER, SPLITS, {}, ZERO, places={"a": [2**70]}), Status.BAD_LENGTH,
+     "1 split prices, and 2 splits"),
+    (lambda: check(CLUSTER, SPLITS, {}, Prices({}, {}), places={"a": [2**70]}), Status.BAD_PLACES,
+     f"worker 'a': {2**70:,} for a place, at most 68,719,476,736"),
     (lambda: check(CLUSTER, SPLITS, {"s": "n"}, ZERO), Status.BAD_STARTS, "split 's': worker 'n' is no worker"),
     (lambda: check(CLUSTER, SPLITS, {"x": "a"}, ZERO), Status.BAD_LENGTH, "starts: 'x' is no split"),
     (lambda: check(CLUSTER, SPLITS, {}, Prices({"x": 1}, {})), Status.BAD_LENGTH, "prices: 'x' is no split"),
@@ -184,7 +210,7 @@ def statuses():
     pairs += [(refused(call, Unfit), Unfit(status, words)) for call, status, words in UNFIT_CALLS]
     told = re.findall(r"^#define MRJOB_(MAX_\w+|(?:WIDE_)?NONE|VERSION) (\d+)", (ROOT / "include/mrjob.h").read_text(), re.M)
     pairs += [(getattr(library, name), int(value)) for name, value in told]
-    return differences([(str(said), str(wanted)) for said, wanted in pairs] + pairs) and len(told) == 13
+    return differences([(str(said), str(wanted)) for said, wanted in pairs] + pairs) and len(told) == 14
 
 
 def bounds():
@@ -254,12 +280,14 @@ def values():
     """One of each kind of value, all different."""
     best = plan(CLUSTER, SPLITS)
     out_of_type = arrays.Wave(**{**FIT, "splits": [(2**70, 0, 1, 1)]})
+    priced = arrays.Wave(**{**FIT, "barred": []})
     lent = arrays.Wave(1, array("H", [0]), (library.WorkerRow * 1)((0, 1, 1)), FIT["splits"], [])
     return [
         Worker("r"), Worker("r", 2), SPLITS["s"], SPLITS["t"], CLUSTER, Cluster([Worker("r")], ["c"], ["c"]),
         best, best.prices, Certified(2, 20), Refused(6, "s", "a"), Refused(8, None, "a"), Unfit(Status.BAD_SPLITS),
         Unfit(Status.BAD_SPLITS, "split 's': -1 bytes"), NoMemory(), WAVE, out_of_type, lent, arrays.plan(WAVE),
-        arrays.check(WAVE, [None], [0], [0]), arrays.check(WAVE, [0], [0], [0]), *Status, *Network,
+        arrays.check(WAVE, [None], [0], [0]), arrays.check(WAVE, [0], [0], [0]), FREE, arrays.Places([(0, 1)], [2**70]),
+        Certified(2, 20, 3), arrays.plan(priced, places=arrays.Places([(0, 1)], [7])), *Status, *Network,
     ]  # fmt: skip
 
 
@@ -285,6 +313,9 @@ def by_value():
         (bool(Refused(8, None, "a")), False),
         (bool(Certified(0, 0)), True),
         (str(arrays.Verdict(2, 20, None, None, None)), "certified: 2 starts at byte-distance 20"),
+        (str(arrays.Verdict(2, 20, None, None, None, 3)),
+         "certified: 2 starts at byte-distance 20 in places that cost 3"),
+        (repr(FREE), "<Places of 1 workers, 0 prices>"),
     ]
     return differences(pairs)
 
@@ -304,6 +335,36 @@ def verdicts():
         ((bool(refusal), refusal.condition, refusal.split, refusal.worker), (False, 6, 0, 0)),
         (str(refusal), "C6 fails at split 0 and worker 0: the prices of a pair that starts are too high"),
     ])  # fmt: skip
+
+
+def priced_places():
+    """Where the second place of a worker costs more than the way to another one, and where it does not; by names, by
+    numbers, and by arrays that are lent."""
+    cluster, numbered = Cluster({"a": Worker("r", 2), "b": Worker("r", 2)}), Cluster([Worker(0, 2), Worker(0, 2)])
+    splits, pairs = {"s": Split(10, ["a"]), "t": Split(20, ["a"])}, []
+    for second, starts, cost, taken in ((24, {"s": "a", "t": "a"}, 0, 24), (26, {"s": "b", "t": "a"}, 20, 5)):
+        places = {"a": [0, second], "b": (5,)}
+        best = plan(cluster, splits, places=places)
+        pairs += [((best.starts, best.count, best.cost, best.places), (starts, 2, cost, taken))]
+        pairs += [(check(cluster, splits, best.starts, best.prices, places=places), Certified(2, cost, taken))]
+        by_number = plan(numbered, [Split(10, [0]), Split(20, [0])], places=[[0, second], [5]])
+        numbers = {"a": 0, "b": 1}
+        pairs += [([*by_number.starts.values()], [numbers[it] for it in starts.values()])]
+    wave = arrays.Wave(1, [0], [(0, 2, 1)] * 2, [(10, 0, 1, 1), (20, 0, 1, 1)], [0], [(0, 1)])
+    prices = array("Q", [0, 26, 5])
+    rows = (library.PlaceRow * 2)((0, 2), (2, 1))
+    places = arrays.Places(rows, prices)
+    best = arrays.plan(wave, places=places)
+    pairs += [(([*best.starts], best.cost, best.places), ([0, 0], 0, 26))]
+    given = best.starts, best.split_prices, best.worker_prices
+    pairs += [(arrays.check(wave, *given, places), arrays.Verdict(2, 0, None, None, None, 26))]
+    prices[1] = 30  # (in the memory that is lent)
+    pairs += [(arrays.check(wave, *given, places).condition is None, False)]
+    shared = refused(lambda: arrays.plan(wave, split_prices=prices, places=places), ValueError)
+    pairs += [(str(shared), "split_prices and place_prices share memory, and split_prices is to be written")]
+    unfree = Prices({"s": 151, "t": 151}, {"a": 30, "b": 10})
+    pairs += [(bool(check(cluster, splits, {"s": "b", "t": "a"}, unfree)), False)]
+    return differences(pairs)
 
 
 def work(size):
@@ -434,9 +495,12 @@ verdict = check(cluster, splits, {7: None, 8: "a"}, Prices([1, 2], {"a": 0}))
 if not verdict:
     reveal_type(verdict.split)  # Union[int, None]
 reveal_type(verdict.cost if verdict else 0)  # int
+reveal_type(plan(cluster, splits, places={"a": [0, 5]}).places)  # int
 check(cluster, splits, {8: 3}, best.prices)  # error
 check(cluster, splits, {"s": "a"}, best.prices)  # error
 plan(cluster, {"s": 10})  # error
+plan(cluster, splits, places={"a": 5})  # error
+plan(cluster, splits, places={7: [5]})  # error
 """
 
 
@@ -568,8 +632,8 @@ def installed():
         return differences([*pairs, (said.count("\n"), 2)])
 
 
-TESTS = [statuses, bounds, forms, by_value, verdicts, pools, new_arrays, numpy_arrays, documents, types, wheel]
-TESTS += [another_checkout, installed]
+TESTS = [statuses, bounds, forms, by_value, verdicts, priced_places, pools, new_arrays, numpy_arrays, documents, types]
+TESTS += [wheel, another_checkout, installed]
 
 
 def main():

@@ -4,7 +4,7 @@
     splits = {"s": Split(10, ["a"]), "t": Split(20, ["a"])}
     best = plan(cluster, splits)
     best.starts                                             {'s': 'b', 't': 'a'}
-    check(cluster, splits, best.starts, best.prices)        Certified(count=2, cost=20), which is true
+    check(cluster, splits, best.starts, best.prices)        Certified(count=2, cost=20, places=0), which is true
 
 Names are any keys; sequences in place of mappings go by number. `mrjob_plan.arrays` has the same over arrays, those
 of numpy without a copy. Calls raise Unfit or NoMemory where they have no answer, and ImportError where the library is

@@ -2,9 +2,9 @@
 
 An array of numpy, of ctypes or of the module array whose elements are just those that are wanted, in one piece and
 writable, is lent to the library as it is. Any other array or sequence is copied, number by number: rows of an array
-with named fields go by their names, and other rows by their places. WORKER, SPLIT and PAIR are the types for numpy
-that are lent, as in `numpy.zeros(1024, SPLIT)`; plain numbers are 'u2' (racks, workers) and 'u8' (prices). Past 65,535
-splits it is WIDE_PAIR that is lent.
+with named fields go by their names, and other rows by their places. WORKER, SPLIT, PAIR and PLACE are the types for
+numpy that are lent, as in `numpy.zeros(1024, SPLIT)`; plain numbers are 'u2' (racks, workers) and 'u8' (prices). Past
+65,535 splits, and where places have prices, it is WIDE_PAIR that is lent.
 """
 import ctypes
 import operator
@@ -17,17 +17,19 @@ from functools import lru_cache
 from itertools import combinations
 from typing import Any, Dict, List, Mapping, Optional, Sequence, Tuple, Union
 
-from .faults import refusal
-from .library import MAX_SPLITS, NONE, WIDE_NONE, PairRow, SplitRow, Total, VerdictRow, WaveRows, WidePairRow
-from .library import WideVerdictRow, WorkerRow, load
+from .faults import Status, refusal
+from .library import MAX_SPLITS, NONE, WIDE_NONE, PairRow, PlaceRow, PlaceRows, PlacesTotal, PlacesVerdictRow
+from .library import SplitRow, VerdictRow, WaveRows, WidePairRow, WideVerdictRow, WorkerRow, load
 from .unfit import raise_for
 
-__all__ = ["NONE", "PAIR", "SPLIT", "WIDE_PAIR", "WORKER", "Network", "Planned", "Verdict", "Wave", "check", "plan"]
+__all__ = ["NONE", "PAIR", "PLACE", "SPLIT", "WIDE_PAIR", "WORKER", "Network", "Places", "Planned", "Verdict", "Wave"]
+__all__ += ["check", "plan"]
 
 WORKER = [("rack", "<u2"), ("free", "|u1"), ("live", "|u1")]
 SPLIT = [("bytes", "<u8"), ("first_holder", "<u4"), ("holder_count", "<u2"), ("pending", "<u2")]
 PAIR = [("split", "<u2"), ("worker", "<u2")]
 WIDE_PAIR = [("split", "<u4"), ("worker", "<u4")]
+PLACE = [("first_price", "<u4"), ("price_count", "<u4")]
 
 # The fields that say yes or no: any number but 0 says yes.
 ANSWERS = ("live", "pending")
@@ -191,9 +193,14 @@ class Wave:
         names = ("centre_of", "workers", "splits", "holders", "barred")
         return {it: getattr(self, it) for it in names}
 
-    def rows(self) -> WaveRows:
-        pairs = [word for it in self.arrays.values() for word in it.pair]
-        return WaveRows(within(2**64, self.centres), *pairs)
+    def rows(self, barred: Optional[Elements] = None) -> WaveRows:
+        """What leads to the arrays; and where it is given, to this one in place of the barred pairs."""
+        every = {**self.arrays, "barred": self.barred if barred is None else barred}
+        return WaveRows(within(2**64, self.centres), *(word for it in every.values() for word in it.pair))
+
+    def wide_barred(self) -> Elements:
+        """The barred pairs in numbers of 32 bits."""
+        return self.barred if self.is_wide else Elements("barred", WidePairRow, self.barred.values())
 
     def name(self, kind: str, number: int) -> str:
         """What a message calls a rack, a worker or a split."""
@@ -213,20 +220,50 @@ class Wave:
         return f"<Wave of {self.centres} centres, {', '.join(lengths).replace('centre_of', 'racks')}>"
 
 
+class Places:
+    """Prices of places, with the fields of `struct mrjob_places`: a row for each worker, and the prices. Equality and
+    copies are as a wave's."""
+
+    def __init__(self, rows: Any, prices: Any) -> None:
+        self.rows = Elements("place_rows", PlaceRow, rows)
+        self.prices = Elements("place_prices", c_uint64, prices)
+
+    @property
+    def arrays(self) -> Dict[str, Elements]:
+        return {"place_rows": self.rows, "place_prices": self.prices}
+
+    def both(self) -> PlaceRows:
+        return PlaceRows(*self.rows.pair, *self.prices.pair)
+
+    def values(self) -> Tuple[Any, ...]:
+        return self.rows.values(), self.prices.values()
+
+    def __eq__(self, other: object) -> bool:
+        return isinstance(other, Places) and self.values() == other.values()
+
+    def __reduce__(self) -> Tuple[Any, ...]:
+        return Places, self.values()
+
+    def __repr__(self) -> str:
+        return f"<Places of {len(self.rows)} workers, {len(self.prices)} prices>"
+
+
 @dataclass(frozen=True, eq=False)
 class Planned:
-    """Starts by split, of which NONE says that a split does not start, prices, and the starts' count and cost. Two are
-    equal whose numbers are; what is unpickled, or a copy, has arrays of the module array."""
+    """Starts by split, of which NONE says that a split does not start, prices, the starts' count and cost, and what the
+    places cost that they take. Two are equal whose numbers are; what is unpickled, or a copy, has arrays of the module
+    array."""
 
     starts: Any
     split_prices: Any
     worker_prices: Any
     count: int
     cost: int
+    places: int = 0
 
     def values(self) -> Tuple[Any, ...]:
         prices = array("Q", self.split_prices), array("Q", self.worker_prices)
-        return array("H", self.starts), *prices, self.count, self.cost
+        return array("H", self.starts), *prices, self.count, self.cost, self.places
 
     def __eq__(self, other: object) -> bool:
         return isinstance(other, Planned) and self.values() == other.values()
@@ -237,21 +274,23 @@ class Planned:
 
 @dataclass(frozen=True)
 class Verdict:
-    """Count and cost where the prices certify the starts, and then it is true; else the condition that fails first, and
-    its place."""
+    """Count, cost and what the places cost where the prices certify the starts, and then it is true; else the condition
+    that fails first, and its place."""
 
     count: int
     cost: int
     condition: Optional[int]
     split: Optional[int]
     worker: Optional[int]
+    places: int = 0
 
     def __bool__(self) -> bool:
         return self.condition is None
 
     def __str__(self) -> str:
         if self.condition is None:
-            return f"certified: {self.count} starts at byte-distance {self.cost}"
+            places = f" in places that cost {self.places}" if self.places else ""
+            return f"certified: {self.count} starts at byte-distance {self.cost}{places}"
         return refusal(self.condition, self.split, self.worker)
 
 
@@ -261,26 +300,41 @@ def plan(
     starts: Any = None,
     split_prices: Any = None,
     worker_prices: Any = None,
+    places: Optional[Places] = None,
 ) -> Planned:
-    """A best plan with its prices, in new arrays of the module array, or in those that are given. Raises Unfit or
-    NoMemory where there is none, and TypeError or ValueError where an array cannot be written."""
+    """A best plan with its prices, in new arrays of the module array, or in those that are given. With prices of places
+    it is best by cost and places together, and made over the network with racks alone. Raises Unfit or NoMemory where
+    there is none, and TypeError or ValueError where an array cannot be written."""
     outputs = {
         "starts": Output("starts", c_uint16, len(wave.splits), starts),
         "split_prices": Output("split_prices", c_uint64, len(wave.splits), split_prices),
         "worker_prices": Output("worker_prices", c_uint64, len(wave.workers), worker_prices),
     }
-    refuse_overlaps(outputs, wave.arrays)
-    total = Total()
+    refuse_overlaps(outputs, wave.arrays if places is None else {**wave.arrays, **places.arrays})
     arrays = [word for it in outputs.values() for word in it.pair]
-    call = load().mrjob_plan_wide if wave.is_wide else load().mrjob_plan
-    status = call(byref(wave.rows()), within(2**32, network), *arrays, byref(total))
-    raise_for(status, wave, outputs, network)
+    total = PlacesTotal()
+    if places is None:
+        call = load().mrjob_plan_wide if wave.is_wide else load().mrjob_plan
+        status = call(byref(wave.rows()), within(2**32, network), *arrays, byref(total))
+    else:
+        status = plan_places(wave, network, places, arrays, total)
+    raise_for(status, wave, outputs, network, places)
     written = [it.array for it in outputs.values()]
-    return Planned(written[0], written[1], written[2], total.count, total.cost)
+    return Planned(written[0], written[1], written[2], total.count, total.cost, total.places)
 
 
-def check(wave: Wave, starts: Any, split_prices: Any, worker_prices: Any) -> Verdict:
-    """What the prices say of the starts, in which None is as NONE. Raises Unfit or NoMemory where they say nothing."""
+def plan_places(wave: Wave, network: int, places: Places, arrays: Sequence[int], total: PlacesTotal) -> int:
+    if network != Network.RACKS:
+        return Status.BAD_NETWORK
+    barred = wave.wide_barred()
+    return int(load().mrjob_plan_places(byref(wave.rows(barred)), byref(places.both()), *arrays, byref(total)))
+
+
+def check(
+    wave: Wave, starts: Any, split_prices: Any, worker_prices: Any, places: Optional[Places] = None
+) -> Verdict:
+    """What the prices say of the starts, in which None is as NONE, where places have these prices, or are free. Raises
+    Unfit or NoMemory where they say nothing."""
     if not hasattr(starts, "tolist") and not isinstance(starts, ctypes.Array):
         starts = [NONE if it is None else it for it in starts]
     given = {
@@ -288,9 +342,19 @@ def check(wave: Wave, starts: Any, split_prices: Any, worker_prices: Any) -> Ver
         "split_prices": Elements("split_prices", c_uint64, split_prices),
         "worker_prices": Elements("worker_prices", c_uint64, worker_prices),
     }
+    arrays = [word for it in given.values() for word in it.pair]
+    if places is not None:
+        return check_places(wave, places, given, arrays)
     row: Union[VerdictRow, WideVerdictRow] = WideVerdictRow() if wave.is_wide else VerdictRow()
     call, none = (load().mrjob_check_wide, WIDE_NONE) if wave.is_wide else (load().mrjob_check, NONE)
-    arrays = [word for it in given.values() for word in it.pair]
     raise_for(call(byref(wave.rows()), *arrays, byref(row)), wave, given)
     place = [None if it == none else it for it in (row.split, row.worker)]
     return Verdict(row.count, row.cost, row.condition or None, *place)
+
+
+def check_places(wave: Wave, places: Places, given: Mapping[str, Elements], arrays: Sequence[int]) -> Verdict:
+    row, barred = PlacesVerdictRow(), wave.wide_barred()
+    status = load().mrjob_check_places(byref(wave.rows(barred)), byref(places.both()), *arrays, byref(row))
+    raise_for(status, wave, given, places=places)
+    place = [None if it == WIDE_NONE else it for it in (row.split, row.worker)]
+    return Verdict(row.count, row.cost, row.condition or None, place[0], place[1], row.places)

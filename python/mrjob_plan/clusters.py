@@ -98,20 +98,24 @@ class Prices(Generic[OfSplits, OfWorkers]):
 
 @dataclass(frozen=True)
 class Plan(Generic[S, W]):
-    """The worker of each split that starts, how many do, their byte-distance together, and prices that certify it."""
+    """The worker of each split that starts, how many do, their byte-distance together, prices that certify it, and what
+    the places cost that the starts take."""
 
     starts: Dict[S, W]
     count: int
     cost: int
     prices: Prices[Dict[S, int], Dict[W, int]]
+    places: int = 0
 
 
 @dataclass(frozen=True)
 class Certified:
-    """The prices certify the starts: so many, at this byte-distance together. It is true."""
+    """The prices certify the starts: so many, at this byte-distance together, in places that cost so much. It is
+    true."""
 
     count: int
     cost: int
+    places: int = 0
 
     def __bool__(self) -> Literal[True]:
         return True
@@ -152,13 +156,13 @@ class Numbers(Generic[N]):
         except KeyError as unknown:
             raise Unfit(status, f"{owner} {owner_name!r}: {role} {unknown.args[0]!r} is no {self.kind}") from None
 
-    def listed(self, given: Named[N, T], missing: T, noun: str) -> List[T]:
+    def listed(self, given: Named[N, T], missing: T, noun: str, status: Status = Status.BAD_LENGTH) -> List[T]:
         """What is given for each, by number; as it is where it comes as a sequence."""
         if not isinstance(given, Mapping):
             return list(given)
         for name in given:
             if name not in self.numbers:
-                raise Unfit(Status.BAD_LENGTH, f"{noun}: {name!r} is no {self.kind}")
+                raise Unfit(status, f"{noun}: {name!r} is no {self.kind}")
         return [given.get(name, missing) for name in self.names]
 
 
@@ -197,12 +201,24 @@ class NamedWave(Generic[S, W]):
         self.wave = arrays.Wave(centres, centre_of, workers, rows, holders, barred)
         self.wave.names = {it.kind: it.names for it in (racks, self.workers, self.splits)}
 
-    def plan(self, network: int) -> Plan[S, W]:
-        planned = arrays.plan(self.wave, network)
+    def places_of(self, places: Optional[Named[W, Sequence[int]]]) -> Optional[arrays.Places]:
+        """A row for each worker, and the prices of all."""
+        if places is None:
+            return None
+        none: Sequence[int] = ()
+        rows: List[Tuple[int, int]] = []
+        prices: List[int] = []
+        for it in self.workers.listed(places, none, "places", Status.BAD_PLACES):
+            rows.append((len(prices), len(it)))
+            prices += it
+        return arrays.Places(rows, prices)
+
+    def plan(self, network: int, places: Optional[Named[W, Sequence[int]]]) -> Plan[S, W]:
+        planned = arrays.plan(self.wave, network, places=self.places_of(places))
         names = self.workers.names
         starts = {split: names[it] for split, it in zip(self.splits.names, planned.starts) if it != NONE}
         prices = Prices(dict(zip(self.splits.names, planned.split_prices)), dict(zip(names, planned.worker_prices)))
-        return Plan(starts, planned.count, planned.cost, prices)
+        return Plan(starts, planned.count, planned.cost, prices, planned.places)
 
     def numbers_of(self, starts: Named[S, Optional[W]]) -> List[Optional[int]]:
         """The number of the worker on which each split starts, or None."""
@@ -214,30 +230,56 @@ class NamedWave(Generic[S, W]):
         return [None if it is None else numbers[it] for it in listed]
 
     def check(
-        self, starts: Named[S, Optional[W]], prices: Prices[Named[S, int], Named[W, int]]
+        self,
+        starts: Named[S, Optional[W]],
+        prices: Prices[Named[S, int], Named[W, int]],
+        places: Optional[Named[W, Sequence[int]]],
     ) -> Union[Certified, Refused[S, W]]:
         split_prices = self.splits.listed(prices.splits, 0, "prices")
         worker_prices = self.workers.listed(prices.workers, 0, "prices")
-        verdict = arrays.check(self.wave, self.numbers_of(starts), split_prices, worker_prices)
+        rows = self.places_of(places)
+        verdict = arrays.check(self.wave, self.numbers_of(starts), split_prices, worker_prices, rows)
         if verdict.condition is None:
-            return Certified(verdict.count, verdict.cost)
+            return Certified(verdict.count, verdict.cost, verdict.places)
         split = None if verdict.split is None else self.splits.names[verdict.split]
         worker = None if verdict.worker is None else self.workers.names[verdict.worker]
         return Refused(verdict.condition, split, worker)
 
 
 @overload
-def plan(cluster: Cluster[W], splits: Mapping[S, Split], network: int = ...) -> Plan[S, W]: ...
+def plan(
+    cluster: Cluster[W],
+    splits: Mapping[S, Split],
+    network: int = ...,
+    *,
+    places: Optional[Named[W, Sequence[int]]] = ...,
+) -> Plan[S, W]: ...
 
 
 @overload
-def plan(cluster: Cluster[W], splits: Sequence[Split], network: int = ...) -> Plan[int, W]: ...
+def plan(
+    cluster: Cluster[W],
+    splits: Sequence[Split],
+    network: int = ...,
+    *,
+    places: Optional[Named[W, Sequence[int]]] = ...,
+) -> Plan[int, W]: ...
 
 
-def plan(cluster: Cluster[W], splits: Any, network: int = Network.RACKS) -> Plan[Any, W]:
+def plan(
+    cluster: Cluster[W],
+    splits: Any,
+    network: int = Network.RACKS,
+    *,
+    places: Optional[Named[W, Sequence[int]]] = None,
+) -> Plan[Any, W]:
     """A best plan of the splits: no other starts more, and none that starts as many costs less. Raises Unfit where the
-    cluster and the splits are no wave, and NoMemory."""
-    return NamedWave[Any, W](cluster, splits).plan(network)
+    cluster and the splits are no wave, and NoMemory.
+
+    `places` has the prices of a worker's places: what its first start is charged beside its byte-distance, what its
+    second is, and so on. They do not fall. A place past the last price costs as much as that; a worker without prices
+    has free places. The plan is then best by cost and places together. It wants the network over racks."""
+    return NamedWave[Any, W](cluster, splits).plan(network, places)
 
 
 @overload
@@ -246,6 +288,8 @@ def check(
     splits: Mapping[S, Split],
     starts: Named[S, Optional[W]],
     prices: Prices[Named[S, int], Named[W, int]],
+    *,
+    places: Optional[Named[W, Sequence[int]]] = ...,
 ) -> Union[Certified, Refused[S, W]]: ...
 
 
@@ -255,13 +299,22 @@ def check(
     splits: Sequence[Split],
     starts: Named[int, Optional[W]],
     prices: Prices[Named[int, int], Named[W, int]],
+    *,
+    places: Optional[Named[W, Sequence[int]]] = ...,
 ) -> Union[Certified, Refused[int, W]]: ...
 
 
-def check(cluster: Cluster[W], splits: Any, starts: Any, prices: Any) -> Union[Certified, Refused[Any, W]]:
+def check(
+    cluster: Cluster[W],
+    splits: Any,
+    starts: Any,
+    prices: Any,
+    *,
+    places: Optional[Named[W, Sequence[int]]] = None,
+) -> Union[Certified, Refused[Any, W]]:
     """Certified, which is true, where the prices certify the starts, which are then best; else Refused, which is false,
-    with the condition that fails first. A price that a mapping leaves out is 0.
+    with the condition that fails first. A price that a mapping leaves out is 0. `places` is as for `plan`.
 
     Raises Unfit where the cluster and the splits are no wave, or the starts and the prices are not of it, and NoMemory;
     a condition that fails is no exception."""
-    return NamedWave[Any, W](cluster, splits).check(starts, prices)
+    return NamedWave[Any, W](cluster, splits).check(starts, prices, places)

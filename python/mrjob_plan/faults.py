@@ -17,6 +17,7 @@ class Status(IntEnum):
     BAD_STARTS = 8
     BAD_NETWORK = 9
     NO_MEMORY = 10
+    BAD_PLACES = 11
 
 
 WORDS = {
@@ -31,6 +32,8 @@ WORDS = {
     Status.BAD_NETWORK: "there is no such network, or there are more than 1,024 splits or 256 workers for the direct "
     "one",
     Status.NO_MEMORY: "there is no memory",
+    Status.BAD_PLACES: "there is not one row of place prices for each worker, or one has more than 255 prices, prices "
+    "past the last, or one that is past 68,719,476,736 or lower than the one before",
 }
 
 CONDITIONS = {

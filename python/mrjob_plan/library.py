@@ -20,6 +20,8 @@ MAX_DIRECT_WORKERS = 256
 MAX_HOLDERS = 16
 MAX_SLOTS = 255
 MAX_BYTES = 8589934592
+# Of one place.
+MAX_PLACE_PRICE = 68719476736
 # In a place of a worker or a split: none. Workers and splits are numbered below it.
 NONE = 65535
 # The same in the verdict of a wide wave.
@@ -42,6 +44,18 @@ class WidePairRow(Structure):
     _fields_ = [("split", c_uint32), ("worker", c_uint32)]
 
 
+class PlaceRow(Structure):
+    _fields_ = [("first_price", c_uint32), ("price_count", c_uint32)]
+
+
+class PlaceRows(Structure):
+    _fields_ = [
+        (f"{name}_{part}", kind)
+        for name in ("rows", "prices")
+        for part, kind in (("address", c_void_p), ("length", c_size_t))
+    ]
+
+
 class WaveRows(Structure):
     """Of a narrow or a wide wave, which differ in what the address of the barred pairs leads to."""
 
@@ -56,6 +70,11 @@ class Total(Structure):
     count: int
     cost: int
     _fields_ = [("count", c_uint64), ("cost", c_uint64)]
+
+
+class PlacesTotal(Total):
+    places: int
+    _fields_ = [("places", c_uint64)]
 
 
 class VerdictRow(Structure):
@@ -74,6 +93,22 @@ class WideVerdictRow(Structure):
     split: int
     worker: int
     _fields_ = [*Total._fields_, ("condition", c_uint32), ("split", c_uint32), ("worker", c_uint32)]
+
+
+class PlacesVerdictRow(Structure):
+    count: int
+    cost: int
+    places: int
+    condition: int
+    split: int
+    worker: int
+    _fields_ = [
+        *Total._fields_,
+        ("places", c_uint64),
+        ("condition", c_uint32),
+        ("split", c_uint32),
+        ("worker", c_uint32),
+    ]
 
 
 def place() -> str:
@@ -104,4 +139,8 @@ def load() -> ctypes.CDLL:
     for check, verdict in ((library.mrjob_check, VerdictRow), (library.mrjob_check_wide, WideVerdictRow)):
         check.restype = c_uint32
         check.argtypes = [POINTER(WaveRows), *array, *array, *array, POINTER(verdict)]
+    of_places = [POINTER(WaveRows), POINTER(PlaceRows), *array, *array, *array]
+    library.mrjob_plan_places.restype = library.mrjob_check_places.restype = c_uint32
+    library.mrjob_plan_places.argtypes = [*of_places, POINTER(PlacesTotal)]
+    library.mrjob_check_places.argtypes = [*of_places, POINTER(PlacesVerdictRow)]
     return library

@@ -1,12 +1,12 @@
 """What of a wave or of a plan is not fit, in words, once the library has answered that something is not."""
-from typing import TYPE_CHECKING, Callable, Dict, Iterable, Iterator, Mapping
+from typing import TYPE_CHECKING, Callable, Dict, Iterable, Iterator, Mapping, Optional
 
 from .faults import WORDS, NoMemory, Status, Unfit
 from .library import MAX_BYTES, MAX_CENTRES, MAX_DIRECT_SPLITS, MAX_DIRECT_WORKERS, MAX_HOLDERS, MAX_RACKS, MAX_SLOTS
-from .library import MAX_WIDE_SPLITS, MAX_WORKERS, NONE
+from .library import MAX_PLACE_PRICE, MAX_WIDE_SPLITS, MAX_WORKERS, NONE
 
 if TYPE_CHECKING:
-    from .arrays import Elements, Wave
+    from .arrays import Elements, Places, Wave
 
 Found = Iterator[str]
 
@@ -92,14 +92,39 @@ def of_starts(wave: "Wave", starts: "Elements") -> Found:
             yield from at(wave.name("split", split), absent("worker", worker, len(wave.workers)))
 
 
-def of_network(wave: "Wave", network: int) -> Found:
+def of_network(wave: "Wave", network: int, places: Optional["Places"]) -> Found:
+    if places is not None:
+        yield f"network {network:,}, and where places have prices it is 0, over racks"
     if network == 1:
         yield from past(len(wave.splits), MAX_DIRECT_SPLITS, "splits for the direct network")
         yield from past(len(wave.workers), MAX_DIRECT_WORKERS, "workers for the direct network")
     yield f"network {network:,} is neither 0, over racks, nor 1, direct"
 
 
-def raise_for(status: int, wave: "Wave", plan: Mapping[str, "Elements"], network: int = 0) -> None:
+def of_places(wave: "Wave", places: "Places") -> Found:
+    if len(places.rows) != len(wave.workers):
+        yield f"{len(places.rows):,} rows of place prices, and {len(wave.workers):,} workers"
+    every = places.prices.values()
+    for worker, (first, count) in enumerate(places.rows.values()):
+        place = wave.name("worker", worker)
+        yield from at(place, past(count, MAX_SLOTS, "prices of places"))
+        if not 0 <= first <= first + count <= len(every):
+            yield f"{place}: prices from {first:,} up to {first + count:,}, and there are {len(every):,}"
+        prices = every[first : first + count]
+        for price in prices:
+            yield from at(place, past(price, MAX_PLACE_PRICE, "for a place"))
+        for before, after in zip(prices, prices[1:]):
+            if after < before:
+                yield f"{place}: a place at {after:,} after one at {before:,}"
+
+
+def raise_for(
+    status: int,
+    wave: "Wave",
+    plan: Mapping[str, "Elements"],
+    network: int = 0,
+    places: Optional["Places"] = None,
+) -> None:
     """Raises what a status means that is no answer, with the first that is not fit of what the call was given."""
     if status == Status.NO_MEMORY:
         raise NoMemory()
@@ -108,8 +133,10 @@ def raise_for(status: int, wave: "Wave", plan: Mapping[str, "Elements"], network
     status = Status(status)
     if status in FINDERS:
         found = FINDERS[status](wave)
+    elif status == Status.BAD_PLACES and places is not None:
+        found = of_places(wave, places)
     elif status == Status.BAD_NETWORK:
-        found = of_network(wave, network)
+        found = of_network(wave, network, places)
     else:
         found = of_lengths(wave, plan) if status == Status.BAD_LENGTH else of_starts(wave, plan["starts"])
     raise Unfit(status, next(found, WORDS[status]))
