@@ -51,6 +51,15 @@ LENGTHS = [
 ]
 
 
+# The same, and what the places cost.
+PRICES = [
+    ([1, 1], 4, {}, [[0, 192], [0, 192]]),
+    ([2, 0], 3, {"w1": [0.75]}, [[0, 0], [48]]),
+    ([1, 0], 1, {"w1": [0.49]}, [[0], []]),  # (0.51 of a mean time are 8.25 steps, but the queue is empty)
+    ([1, 0], 2, {"w1": [0.8]}, [[0], [39]]),  # (3.25 steps)
+]
+
+
 def lengths(count: Count) -> None:
     """How long queues are, worked by hand."""
     for slots, splits, running, wanted in LENGTHS:
@@ -67,6 +76,19 @@ def lengths(count: Count) -> None:
     count.holds("a slow worker has a short queue", found == [5, 1], found)  # (of 1.3 and 3.7 seconds)
 
 
+def prices(count: Count) -> None:
+    """What places cost, worked by hand: by sixteen steps of a mean split for each mean time before they start, to a
+    quarter of a step."""
+    pace = Pace()
+    pace.note("w0", 1.0)
+    for slots, splits, running, wanted in PRICES:
+        asked = wave(slots, splits)
+        sized = {it: split._replace(bytes=12) for it, split in asked.splits.items()}
+        found = pace.priced(asked._replace(splits=sized), running)
+        says = f"queues over slots {slots}, {splits} splits of 12 bytes and calls {running} have these prices"
+        count.holds(says, [*found.prices.values()] == wanted, found.prices)
+
+
 def anew(planner: Planner, count: Count) -> None:
     """When all is planned anew, and in what order a queue starts."""
     queues, waits, seen = Queues(planner, Pace()), wave([1, 1], 4).splits, []
@@ -76,8 +98,15 @@ def anew(planner: Planner, count: Count) -> None:
         for split in queues.starts(wave(slots, 0)._replace(splits=dict(waits)), {}):
             del waits[split]
         seen.append(queues.plans)
-    wanted = [1, 1, 2, 3, 4, 4]
-    count.holds("all is planned anew where a queue is empty, and where a worker is gone or new", seen == wanted, seen)
+    # (all but the last turn start as many as a quarter of the slots)
+    count.holds("all is planned anew as calls start, and where a worker is gone or new", seen == [1, 2, 3, 4, 5, 5], seen)
+    queues, waits, seen = Queues(planner, Pace()), wave([8], 20).splits, []
+    for free, busy in ((8, 0), (1, 7), (1, 7), (1, 7), (0, 8), (1, 7)):
+        for split in queues.starts(wave([free], 0)._replace(splits=dict(waits)), {"w0": [0.5] * busy}):
+            del waits[split]
+        seen.append(queues.plans)
+    wanted = [1, 2, 2, 3, 3, 3]
+    count.holds("all is planned anew where a quarter of the slots have started since", seen == wanted, seen)
     places = {"w0": Place("a"), "w1": Place("a"), "w2": Place("b")}
     held = {"far": ["w2"], "near": ["w1"], "easy": ["w0", "w2"], "hard": ["w0", "w1"], "own": ["w0"]}
     held.update({f"more{number}": ["w1"] for number in range(3)})

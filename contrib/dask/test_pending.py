@@ -74,7 +74,7 @@ def rarest(count: Count) -> None:
     """The candidates of which the rarest come first, by their definition."""
     wrong = []
     for seed in range(300):
-        places, slots, pending = some_pending(Random(seed))
+        places, slots, pending, _ = some_pending(Random(seed))
         load = Counter(at for it in pending.values() for at in it.holders)
         order = sorted(pending, key=lambda it: (-min(load[at] for at in pending[it].holders), pending.number[it]))
         found = set()

@@ -32,7 +32,7 @@ from mrjob_dask.planner import Plan, Split, Wave, wave_of
 
 import reference_check
 from reference_play import misplayed
-from test_ahead import anew, lengths, phases, saved, waiting
+from test_ahead import anew, lengths, phases, prices, saved, waiting
 from test_faults import without_scheduler
 from test_jobs import jobs
 from test_pending import candidates, edge, many, many_blocks, rarest, some_pending
@@ -66,6 +66,7 @@ class Direct(reference_check.Wave):
         self.centre_of = [centres.index(it.centre) for it in racks]
         self.rack_of = [racks.index(wave.places[it]) for it in workers]
         self.free, self.live = [wave.slots[it] for it in workers], [True] * len(workers)
+        self.places = [wave.prices.get(it, ()) for it in workers] if wave.prices else None
         self.bytes = [it.bytes for it in wave.splits.values()]
         self.holders = [[workers.index(at) for at in it.holders] for it in wave.splits.values()]
         self.pending = [True] * len(self.splits)
@@ -89,7 +90,9 @@ def misplanned(planner: Planner, wave: Wave) -> bool:
     loads = [sum(at == worker for _, at in pairs) for worker in range(len(direct.workers))]
     is_fit = all(direct.is_admissible(*it) for it in pairs) and all(map(int.__le__, loads, direct.free))
     cost = sum(direct.cost(*it) for it in pairs)
-    return not is_fit or (len(pairs), cost) != reference_check.most_and_least(direct) or plan.cost != cost
+    places = sum(direct.place_price(it, place) for it, load in enumerate(loads) for place in range(load))
+    best = reference_check.most_and_least(direct)
+    return not is_fit or (len(pairs), cost + places) != best or plan.cost != cost
 
 
 class Both(Planner):
@@ -342,6 +345,7 @@ def main() -> int:
     faults(program, count)
     planner = library or Command(f"{program} plan")
     lengths(count)
+    prices(count)
     anew(planner, count)
     phases(planner, misplanned, count)
     saved(planner, program, count)

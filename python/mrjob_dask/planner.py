@@ -12,7 +12,7 @@ from array import array
 from collections import Counter
 from itertools import islice
 from pathlib import Path
-from typing import Iterable, Mapping, NamedTuple, Optional
+from typing import Iterable, Mapping, NamedTuple, Optional, Sequence
 
 import mrjob_plan.library
 from mrjob_plan import arrays
@@ -21,7 +21,7 @@ from .pending import Pending, Place, Split
 
 # What a wave may have at most (docs/MODEL.md).
 WORKERS, RACKS, CENTRES, HOLDERS, SLOTS, BYTES = 32_768, 4096, 256, 16, 255, 8_589_934_592
-SPLITS = 131_072
+SPLITS, MOST_PRICE = 131_072, 2**36
 
 
 class Unfit(Exception):
@@ -33,15 +33,18 @@ class NoPlanner(Unfit):
 
 
 class Wave(NamedTuple):
-    """What one round of starts can see: of each worker its place and its free slots, and the pending splits."""
+    """What one round of starts can see: of each worker its place and its free slots, and the pending splits. Where
+    slots have prices, the split that takes the nth slot of a worker is charged the nth, beside its byte-distance."""
 
     places: dict[str, Place]
     slots: dict[str, int]
     splits: dict[str, Split]
+    prices: Mapping[str, Sequence[int]] = {}
 
 
 class Plan(NamedTuple):
-    """The worker of each split that starts, and the byte-distance of all, in units of `unit` bytes."""
+    """The worker of each split that starts, and the byte-distance of all, in units of `unit` bytes. Prices of slots are
+    in bytes times steps, as a cost is."""
 
     starts: dict[str, str]
     cost: int
@@ -84,7 +87,7 @@ def wave_of_few(wave: Wave, splits: dict[str, Split]) -> Wave:
     """A wave over these splits, with the workers alone that have free slots or hold one of them."""
     known = {it for split in splits.values() for it in (*split.holders, *split.barred)}
     places = {it: place for it, place in wave.places.items() if wave.slots[it] or it in known}
-    return Wave(places, {it: wave.slots[it] for it in places}, splits)
+    return wave._replace(places=places, slots={it: wave.slots[it] for it in places}, splits=splits)
 
 
 def within_holders(split: Split, free: Mapping[str, int]) -> Split:
@@ -92,6 +95,15 @@ def within_holders(split: Split, free: Mapping[str, int]) -> Split:
     if len(split.holders) <= HOLDERS:
         return split
     return split._replace(holders=sorted(split.holders, key=lambda it: not free[it])[:HOLDERS])
+
+
+def priced_in(wave: Wave, unit: int) -> Wave:
+    """The wave with its prices in units of so many bytes, where a planner takes them."""
+    prices = {
+        worker: [min(MOST_PRICE, price // unit) for price in row[: wave.slots[worker]]]
+        for worker, row in wave.prices.items() if wave.slots[worker]
+    }
+    return wave._replace(prices={worker: row for worker, row in prices.items() if any(row)})
 
 
 def unit_of(sizes: Iterable[int]) -> int:
@@ -115,7 +127,7 @@ class Planner:
             return Plan({}, 0, 1)
         unit = unit_of(split.bytes for split in wave.splits.values())
         units = {name: -(-split.bytes // unit) for name, split in wave.splits.items()}
-        starts, cost = self.ask(wave, units)
+        starts, cost = self.ask(priced_in(wave, unit), units)
         steps = {
             split: min(distance(wave.places, it, worker) for it in wave.splits[split].holders)
             for split, worker in starts.items()
@@ -188,6 +200,8 @@ def head_lines(wave: Wave, units: dict[str, int]) -> list[str]:
     for number, (worker, place) in enumerate(wave.places.items()):
         name[worker] = f"w{number}"
         lines.append(f"worker w{number} {rack[place]} {wave.slots[worker]}")
+        if worker in wave.prices:
+            lines.append(" ".join([f"places w{number}", *map(str, wave.prices[worker])]))
     for number, (split, (_, holders, barred)) in enumerate(wave.splits.items()):
         lines.append(" ".join([f"split s{number} {units[split]}", *(name[it] for it in holders)]))
         lines += [f"barred s{number} {name[it]}" for it in barred]
@@ -206,9 +220,10 @@ class Library(Planner):
 
     def ask(self, wave: Wave, units: dict[str, int]) -> tuple[dict[str, str], int]:
         rows, splits, workers = rows_of(wave, units), [*wave.splits], [*wave.places]
-        best = arrays.plan(rows)
+        places = places_of(wave)
+        best = arrays.plan(rows, places=places)
         if self.is_checked:
-            verdict = arrays.check(rows, best.starts, best.split_prices, best.worker_prices)
+            verdict = arrays.check(rows, best.starts, best.split_prices, best.worker_prices, places)
             if not verdict:
                 raise Unfit(f"a check of the plan says that {verdict}")
         started = [(number, it) for number, it in enumerate(best.starts) if it != arrays.NONE]
@@ -227,6 +242,18 @@ def rows_of(wave: Wave, units: dict[str, int]) -> arrays.Wave:
         splits.append((units[name], len(holders), len(split.holders), 1))
         holders.extend([number[it] for it in split.holders])
     return arrays.Wave(len(centres), [centres[it.centre] for it in racks], workers, splits, holders, barred)
+
+
+def places_of(wave: Wave) -> Optional[arrays.Places]:
+    """The prices of the wave's slots by numbers, if any has one."""
+    if not wave.prices:
+        return None
+    rows, prices = list[tuple[int, int]](), array("Q")
+    for worker in wave.places:
+        row = wave.prices.get(worker, ())
+        rows.append((len(prices), len(row)))
+        prices.extend(row)
+    return arrays.Places(rows, prices)
 
 
 def program() -> str:
