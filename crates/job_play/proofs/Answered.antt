@@ -1,20 +1,17 @@
 -- What is said of the script and the head that were read is said of the text.
-use Rattle.std.proofs.Common.{ℕ, List, Result, Ok, Err, ◌≡◌, refl, subst, sym}
+use Rattle.std.proofs.Common.{ℕ, List, Result, Ok, Err, ◌≡◌, refl, subst}
 use Rattle.std.specs.Result.{IsErrAnd}
 use Rattle.line_rules.specs.Known.{Known}
 use Rattle.line_rules.specs.declared.purpose.Purpose.TheVariants.{Playing}
 use Rattle.command_runner.specs.declared.tool_error.NoAnswer.{NoAnswer}
 use Rattle.command_runner.specs.declared.tool_error.NoAnswer.TheVariants as none
-use Rattle.script_text.specs.Heads.{IsFitHead, MakesHead}
+use Rattle.script_text.specs.Heads.{MakesHead}
 use Rattle.script_text.specs.declared.heads.Head.{Head}
-use Rattle.shuffle_reduce.specs.Gather.{values_of}
 use Rattle.master_state.specs.States.{Cluster}
-use Rattle.master_core.specs.Clusters.{AreFewAndSmall}
-use Rattle.script_text.specs.Scripts.{IsOfHead, IsScriptOf}
-use Rattle.script_text.specs.declared.script.Script.{Script}
+use Rattle.script_text.specs.Scripts.{IsScriptOf}
 use Rattle.script_text.specs.declared.script.ScriptText.{ScriptText}
 use Rattle.job_play.specs.Reports.{IsReport}
-use Rattle.job_play.specs.Rooms.{IsScriptFor, RunsOut, setup_for}
+use Rattle.job_play.specs.Rooms.{RunsOut, setup_for}
 use Rattle.job_play.specs.PlayAnswer.{PlaysRead, RunsOutIn, cluster_in, declared_cluster, holder_limit_in}
 use Rattle.job_play.specs.PlayAnswer.{want_of}
 use Rattle.job_play.specs.declared.player.PlayEnd.{PlayEnd}
@@ -62,25 +59,3 @@ pub full_in_playing : {T : Type 0} (why : PlayError) (result : Result T NoAnswer
 full_in_playing why (Ok x) is full = absurd is
 full_in_playing Memory (Err e) is full = cc
 full_in_playing HistoryFull (Err e) is full = refl
-
-pub few_and_small : (head : Head) → IsFitHead head →
-    AreFewAndSmall head.slots.items head.splits.items (values_of head.texts.items) head.parts
-few_and_small head is = record {
-  few_workers = is.few_workers;
-  few_slots = is.few_slots;
-  few_splits = is.few_splits;
-  small_splits = is.small_splits;
-  few_documents = is.few_documents;
-  few_parts = is.few_parts;
-}
-
--- a script of a head is one for the cluster that the head makes
-pub script_for : (head : Head) (script : Script) (cluster : Cluster) → IsOfHead head script
-    → cluster ≡ cluster_in head → IsScriptFor (setup_for cluster script) script
-script_for head script cluster is made =
-    subst (λ (c : Cluster). IsScriptFor (setup_for c script) script) (sym made) (record {
-      workers = is.workers;
-      splits = is.splits;
-      known = is.known;
-      few = is.few;
-    })

@@ -15,7 +15,7 @@ use Rattle.script_text.specs.declared.script.Command.{Command}
 use Rattle.script_text.specs.declared.script.Command.TheVariants as command
 use Rattle.job_play.specs.Given.{Runs, HasRuns, HoldsRuns}
 use Rattle.job_play.specs.Reports.{Performs}
-use Rattle.job_play.specs.Playing.{IsAnswered, Performed}
+use Rattle.job_play.specs.Playing.{Performed}
 use Rattle.job_play.proofs.Calls.{IsStarted, is_done}
 
 -- ---- the starts of which each has its runs in the table
@@ -101,13 +101,6 @@ pub holds_runs : {names : Names} {target : ℕ} {old new : Job} {c : Command} {b
     HoldsRuns table old → HoldsRuns table new
 holds_runs {names} {target} {old} {new} {c} table done other holds =
     holds_kept table (keeps names target old new c done.out other done.performs) holds
-
-pub holds_answered : {old new : Job} {call : Call} {after : Plain → List ℕ} {before now : List ℕ}
-    (table : List Runs) → IsAnswered old call after before now new → call ≢ ReduceStart →
-    HoldsRuns table old → HoldsRuns table new
-holds_answered {old} {new} {call} {after} table answered other holds =
-    let told = answered.is_told in
-    holds_kept table (keeps_answered old new call told.answer other told.answers) holds
 
 told_setup : (old new : Job) (call : Call) (given : Plain) → Answers old call given new →
     new.setup ≡ old.setup

@@ -1,12 +1,12 @@
 -- The lines of one command, written after what stood there.
-use Rattle.std.proofs.Common.{◌≡◌, ◌≢◌, ℕ, List, ◌++◌, Option, Some, None, refl, sym, ap, ◌∙◌, inl, inr}
+use Rattle.std.proofs.Common.{◌≡◌, ◌≢◌, ℕ, List, ◌++◌, Option, Some, refl, sym, ap, ◌∙◌, inl, inr}
 use Rattle.std.proofs.Common.{subst, append_assoc}
 use Rattle.std.proofs.lemmas.List.{append-nil}
 use Rattle.master_state.specs.declared.answers.Answer.{Answer}
 use Rattle.master_state.specs.declared.answers.Answer.TheVariants as answer
 use Rattle.master_state.specs.declared.answers.Reply.{Reply}
 use Rattle.master_state.specs.declared.answers.Why.{Why}
-use Rattle.master_state.specs.declared.answers.Why.TheVariants.{OldAttempt, Memory}
+use Rattle.master_state.specs.declared.answers.Why.TheVariants.{Memory}
 use Rattle.master_state.specs.declared.states.Start.{Start}
 use Rattle.master_state.specs.declared.states.Work.TheVariants as works
 use Rattle.master_state.specs.States.{start_of, next_attempt}
@@ -54,13 +54,6 @@ by_start : (names : Names) (target : ℕ) (old new : Job) (c : Command) (a : ℕ
 by_start names target old new c a Does out before now performs start is does written =
     record { out = out; performs = performs (subst Does (sym is) does); written = written }
 
-pub done_unknown : (names : Names) (target : ℕ) (old : Job) (a : ℕ) (before now : List ℕ) →
-    start_of old.state a ≡ None → now ≡ before ++ ignored_line OldAttempt →
-    Performed names target old (command.Done a) before now old
-done_unknown names target old a before now none written =
-    by_start names target old old (command.Done a) a (λ start. Does old a start (ignored_line OldAttempt) old)
-    _ before now (λ it. it) None none (record { out_is = refl; unchanged = refl }) written
-
 pub done_split : (names : Names) (target : ℕ) (old new : Job) (a split w : ℕ) (given : Plain)
     (before now : List ℕ) → start_of old.state a ≡ Some (record { work = works.Split split; worker = w }) →
     HandsSplit old a split given new → now ≡ before ++ answer_line given →
@@ -91,14 +84,6 @@ done_part names target old new a part w given before now start hands written =
     _ before now (λ it. it) _ start does written
 
 -- ---- an attempt fails
-
-pub fail_unknown : (names : Names) (target : ℕ) (old : Job) (a : ℕ) (before now : List ℕ) →
-    start_of old.state a ≡ None → now ≡ before ++ ignored_line OldAttempt →
-    Performed names target old (command.Fail a) before now old
-fail_unknown names target old a before now none written =
-    by_start names target old old (command.Fail a) a
-    (λ start. FailsAttempt old a start (ignored_line OldAttempt) old) _ before now (λ it. it) None none
-    (record { out_is = refl; unchanged = refl }) written
 
 pub failed : (names : Names) (target : ℕ) (old new : Job) (a : ℕ) (start : Start) (given : Plain)
     (before now : List ℕ) → start_of old.state a ≡ Some start →

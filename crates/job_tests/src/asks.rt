@@ -115,8 +115,6 @@ fn an_observer_is_told_what_is_open(rt: HostRuntime) {
         waves: 1,
         ..at_first
     };
-    assert_eq!(rt;
-        (ends.first.get(), ends.last.get()),
-        (Some(at_first), Some(at_last))
-    );
+    let told = (ends.first.get(), ends.last.get());
+    assert_eq!(rt; told, (Some(at_first), Some(at_last)));
 }

@@ -1,5 +1,5 @@
 //! Workers that die by sweeps, and return.
-use crate::gates::{HoldsUntil, Outlives, Seen, Silences};
+use crate::gates::{Count, Holds, Pace, Silences};
 use crate::jobs::{AMPLE, SplitRow, job_of};
 use crate::told::{Told, add_number, run_rows, tell};
 use job_threads::{RunError, run};
@@ -37,7 +37,7 @@ fn orders_that_a_death_lost_are_passed_over(rt: HostRuntime) {
 #[test]
 fn a_death_by_sweeps_loses_no_split(rt: HostRuntime) {
     let rows: [SplitRow<'_>; 1] = [(5, &[0, 1], "one")];
-    let gate = Outlives { seen: Seen::new() };
+    let gate = Holds::new(1, Count::Answered, 1, Pace::Sweeps(512));
     let job = job_of(&rt, rt.alloc(), &[1, 1], &rows, 2, 50, AMPLE).expect(&rt, "no job");
     let told = tell(&rt, rt.alloc(), run(&rt, rt.alloc(), job, &gate));
     assert!(rt; told.is_index("one 0/"), "{told:?}");
@@ -76,10 +76,7 @@ fn full_hands_and_long_lanes(rt: HostRuntime) {
             rows[split].2 = "two";
         }
     }
-    let gate = HoldsUntil {
-        seen: Seen::new(),
-        begun: 4,
-    };
+    let gate = Holds::new(u64::MAX, Count::Begun, 4, Pace::Sweeps(0));
     let told = run_rows(&rt, rt.alloc(), &[16; 4], &rows, AMPLE, &gate);
     let alloc = rt.alloc();
     let mut lines = String::new(alloc);

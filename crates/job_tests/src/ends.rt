@@ -1,8 +1,8 @@
 //! Runs that end without an index, and those that nothing refused changes.
-use crate::gates::{Ask, Ends, Seen, Stops, SweepsOn, Yields};
+use crate::gates::{Ask, Count, Ends, Holds, Pace, Seen, Stops, Yields};
 use crate::jobs::{AMPLE, SplitRow, job_of};
 use crate::told::{Told, run_rows, tell};
-use job_threads::{PlainGate, RunError, run};
+use job_threads::{PlainGate, RunError, Turn, run};
 use master_state::Limits;
 use node_ids::WorkerNo;
 
@@ -31,10 +31,7 @@ fn a_history_full_of_sweeps_ends_the_run(rt: HostRuntime) {
         attempts: 10,
         sweeps: 2,
     };
-    let gate = SweepsOn {
-        seen: Seen::new(),
-        sweeps: 3,
-    };
+    let gate = Holds::new(u64::MAX, Count::Turns, 3, Pace::Each(Turn::Sweep));
     let told = run_rows(&rt, rt.alloc(), &[1, 1], &APART, limits, &gate);
     assert!(rt;
         matches!(told, Told::Error(RunError::HistoryFull)),

@@ -125,19 +125,60 @@ impl Gate for Yields {
     }
 }
 
-/// Holds the first maps until so many have begun.
-#[derive(Drop)]
-pub struct HoldsUntil {
-    pub seen: Seen,
-    pub begun: u64,
+/// Of what a gate counts, that which maps are held for.
+#[derive(Clone, Copy, Debug)]
+pub enum Count {
+    Begun,
+    Answered,
+    Turns,
 }
 
-impl Gate for HoldsUntil {
+/// What a gate does in its turns.
+#[derive(Clone, Copy, Debug)]
+pub enum Pace {
+    /// It sweeps once in so many idle turns, and never where this is 0.
+    Sweeps(u64),
+    /// The same in each turn.
+    Each(Turn),
+}
+
+/// Holds the attempts up to this number until the count has come so far.
+#[derive(Drop)]
+pub struct Holds {
+    pub seen: Seen,
+    last: u64,
+    until: Count,
+    least: u64,
+    pace: Pace,
+}
+
+impl Holds {
+    /// Nothing was begun.
+    pub fn new(last: u64, until: Count, least: u64, pace: Pace) -> Holds {
+        Holds {
+            seen: Seen::new(),
+            last,
+            until,
+            least,
+            pace,
+        }
+    }
+}
+
+impl Gate for Holds {
     ghost may_end = { true };
 
     fn before_map(&self, order: &Order) -> Go {
         self.seen.begin(order);
-        reached(&self.seen.begun, self.begun)
+        if order.attempt().index() as u64 > self.last {
+            return Go::On;
+        }
+        let count = match self.until {
+            Count::Begun => &self.seen.begun,
+            Count::Answered => &self.seen.answered,
+            Count::Turns => &self.seen.turns,
+        };
+        reached(count, self.least)
     }
 
     fn after_map(&self, _order: &Order) -> Go {
@@ -145,7 +186,14 @@ impl Gate for HoldsUntil {
     }
 
     fn turn(&self, idle: u64) -> Turn {
-        self.seen.turn(idle, 0)
+        match self.pace {
+            Pace::Sweeps(every) => self.seen.turn(idle, every),
+            Pace::Each(turn) => {
+                thread::yield_now();
+                self.seen.turns.fetch_add(1, Ordering::SeqCst);
+                turn
+            }
+        }
     }
 }
 
@@ -175,58 +223,6 @@ impl Gate for Stops {
             return Turn::Stop(self.worker);
         }
         self.seen.turn(idle, self.every)
-    }
-}
-
-/// Holds the first map until so many turns were asked for.
-#[derive(Drop)]
-pub struct HoldsForTurns {
-    pub seen: Seen,
-    pub turns: u64,
-}
-
-impl Gate for HoldsForTurns {
-    ghost may_end = { true };
-
-    fn before_map(&self, order: &Order) -> Go {
-        if self.seen.begin(order) > 0 {
-            return Go::On;
-        }
-        reached(&self.seen.turns, self.turns)
-    }
-
-    fn after_map(&self, _order: &Order) -> Go {
-        self.seen.answer()
-    }
-
-    fn turn(&self, idle: u64) -> Turn {
-        self.seen.turn(idle, 0)
-    }
-}
-
-/// Backs up in every turn, and holds the first attempt until another one was answered.
-#[derive(Drop)]
-pub struct BacksUp {
-    pub seen: Seen,
-}
-
-impl Gate for BacksUp {
-    ghost may_end = { true };
-
-    fn before_map(&self, order: &Order) -> Go {
-        if self.seen.begin(order) > 0 {
-            return Go::On;
-        }
-        reached(&self.seen.answered, 1)
-    }
-
-    fn after_map(&self, _order: &Order) -> Go {
-        self.seen.answer()
-    }
-
-    fn turn(&self, _idle: u64) -> Turn {
-        thread::yield_now();
-        Turn::Backup
     }
 }
 
@@ -286,69 +282,6 @@ impl Gate for Silences {
                 .store(self.sweeps.saturating_add(2), Ordering::SeqCst);
         }
         Turn::On
-    }
-}
-
-/// Sweeps often, and holds the first map until another one was answered.
-#[derive(Drop)]
-pub struct Outlives {
-    pub seen: Seen,
-}
-
-impl Gate for Outlives {
-    ghost may_end = { true };
-
-    fn before_map(&self, order: &Order) -> Go {
-        if self.seen.begin(order) > 0 {
-            return Go::On;
-        }
-        reached(&self.seen.answered, 1)
-    }
-
-    fn after_map(&self, _order: &Order) -> Go {
-        self.seen.answer()
-    }
-
-    fn turn(&self, idle: u64) -> Turn {
-        self.seen.turn(idle, 512)
-    }
-}
-
-/// Backs up in every turn, and holds the first attempts, so many, until as many others were answered.
-#[derive(Drop)]
-pub struct BacksUpAll {
-    pub seen: Seen,
-    pub first: u64,
-}
-
-impl BacksUpAll {
-    /// Of so many splits.
-    pub fn new(first: u64) -> BacksUpAll {
-        BacksUpAll {
-            seen: Seen::new(),
-            first,
-        }
-    }
-}
-
-impl Gate for BacksUpAll {
-    ghost may_end = { true };
-
-    fn before_map(&self, order: &Order) -> Go {
-        self.seen.begin(order);
-        if order.attempt().index() as u64 > self.first {
-            return Go::On;
-        }
-        reached(&self.seen.answered, self.first)
-    }
-
-    fn after_map(&self, _order: &Order) -> Go {
-        self.seen.answer()
-    }
-
-    fn turn(&self, _idle: u64) -> Turn {
-        thread::yield_now();
-        Turn::Backup
     }
 }
 
@@ -545,32 +478,6 @@ impl Gate for CountsBeats {
             return Turn::Sweep;
         }
         Turn::On
-    }
-}
-
-/// Sweeps in each turn, and holds each map until so many sweeps were asked for.
-#[derive(Drop)]
-pub struct SweepsOn {
-    pub seen: Seen,
-    pub sweeps: u64,
-}
-
-impl Gate for SweepsOn {
-    ghost may_end = { true };
-
-    fn before_map(&self, order: &Order) -> Go {
-        self.seen.begin(order);
-        reached(&self.seen.sweeps, self.sweeps)
-    }
-
-    fn after_map(&self, _order: &Order) -> Go {
-        self.seen.answer()
-    }
-
-    fn turn(&self, _idle: u64) -> Turn {
-        thread::yield_now();
-        self.seen.sweeps.fetch_add(1, Ordering::SeqCst);
-        Turn::Sweep
     }
 }
 

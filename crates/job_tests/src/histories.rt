@@ -1,8 +1,8 @@
 //! Jobs whose histories are looked at: the copies after a death, and where second attempts start.
-use crate::gates::{BacksUpAll, DiesFirst};
+use crate::gates::{Count, DiesFirst, Holds, Pace};
 use crate::jobs::{AMPLE, SplitRow, job_of};
 use crate::told::add_number;
-use job_threads::{Gate, Observer, Progress, RunError, run_recorded};
+use job_threads::{Gate, Observer, Progress, RunError, Turn, run_recorded};
 use master_state::Event;
 use std::alloc::Global;
 use std::process::Abort;
@@ -120,7 +120,8 @@ fn backs_up<R: Threads + Wait + Clock + Abort + Sync>(
     rows: &[SplitRow<'_>],
     wanted: &str,
 ) {
-    let gate = BacksUpAll::new(rows.len() as u64);
+    let splits = rows.len() as u64;
+    let gate = Holds::new(splits, Count::Answered, splits, Pace::Each(Turn::Backup));
     let deaths = Deaths {
         seen: AtomicU64::new(0),
     };

@@ -1,8 +1,8 @@
 //! Rows whose answers were worked out by hand.
-use crate::gates::{BacksUp, HoldsForTurns, HoldsUntil, Seen, Stops, Yields};
+use crate::gates::{Count, Holds, Pace, Seen, Stops, Yields};
 use crate::jobs::{AMPLE, SplitRow};
 use crate::told::{Told, run_rows};
-use job_threads::PlainGate;
+use job_threads::{PlainGate, Turn};
 use master_state::Limits;
 use node_ids::WorkerNo;
 use std::sync::atomic::Ordering;
@@ -16,10 +16,7 @@ const ON_BOTH: [SplitRow<'static>; 2] = [(3, &[0, 1], "one two"), (3, &[0, 1], "
 // On one thread the first map would be held for ever.
 #[test]
 fn two_workers_map_side_by_side(rt: HostRuntime) {
-    let gate = HoldsUntil {
-        seen: Seen::new(),
-        begun: 2,
-    };
+    let gate = Holds::new(u64::MAX, Count::Begun, 2, Pace::Sweeps(0));
     let told = run_rows(&rt, rt.alloc(), &[1, 1], &APART, AMPLE, &gate);
     assert!(rt; told.is_index("one 0/two 0 1/"), "{told:?}");
     assert!(rt; gate.seen.of_first.load(Ordering::SeqCst) > 0);
@@ -58,10 +55,7 @@ fn a_long_wait_fills_no_history(rt: HostRuntime) {
         attempts: 1000,
         sweeps: 1000,
     };
-    let gate = HoldsForTurns {
-        seen: Seen::new(),
-        turns: 10_000,
-    };
+    let gate = Holds::new(1, Count::Turns, 10_000, Pace::Sweeps(0));
     let told = run_rows(&rt, rt.alloc(), &[1, 1], &APART, limits, &gate);
     assert!(rt; told.is_index("one 0/two 0 1/"), "{told:?}");
 }
@@ -69,7 +63,7 @@ fn a_long_wait_fills_no_history(rt: HostRuntime) {
 #[test]
 fn a_backup_overtakes_the_first_attempt(rt: HostRuntime) {
     let rows: [SplitRow<'_>; 1] = [(5, &[0, 1], "one")];
-    let gate = BacksUp { seen: Seen::new() };
+    let gate = Holds::new(1, Count::Answered, 1, Pace::Each(Turn::Backup));
     let told = run_rows(&rt, rt.alloc(), &[1, 1], &rows, AMPLE, &gate);
     assert!(rt; told.is_index("one 0/"), "{told:?}");
     assert!(rt; gate.seen.begun.load(Ordering::SeqCst) == 2);

@@ -1,7 +1,5 @@
-ghost use Rattle.std.specs.Prelude.{true};
-
-use job_run::{Gate, Go, PlainGate, RunEnd, RunError, RunTextError, Turn, run_text};
-use lane_queue::Order;
+use crate::gates::{Ask, Ends};
+use job_run::{Gate, PlainGate, RunEnd, RunError, RunTextError, run_text};
 use std::alloc::Global;
 use std::rt::Clock;
 use std::sync::Wait;
@@ -10,26 +8,6 @@ use std::thread::Threads;
 const CLUSTER: &str = "silence 1\nrack r\nworker a r 1\nworker b r 1\nsplit s 3 a\nsplit t 3";
 
 const DOCUMENTS: &str = "\ndoc d s one two\ndoc e t two\nend\n";
-
-// Ends each run in its first turn.
-#[derive(Clone, Copy)]
-struct Ends;
-
-impl Gate for Ends {
-    ghost may_end = { true };
-
-    fn before_map(&self, _order: &Order) -> Go {
-        Go::On
-    }
-
-    fn after_map(&self, _order: &Order) -> Go {
-        Go::On
-    }
-
-    fn turn(&self, _idle: u64) -> Turn {
-        Turn::Over
-    }
-}
 
 // How the run of a job ends whose split t has these holders, and what is written.
 fn ran<T: Threads + Wait + Clock + Sync, G: Gate>(
@@ -63,14 +41,16 @@ fn a_job_ends_with_its_index_or_stuck(rt: HostRuntime) {
 
 #[test]
 fn a_run_that_its_gate_ends_writes_nothing(rt: HostRuntime) {
-    let (end, written) = ran(&rt, rt.alloc(), &Ends, "job 1", " b").expect(&rt, "no memory");
+    let gate = Ends { at: Ask::Turn };
+    let (end, written) = ran(&rt, rt.alloc(), &gate, "job 1", " b").expect(&rt, "no memory");
     assert_eq!(rt; end, Err(RunTextError::Run(RunError::GateLimit)));
     assert!(rt; written.is_empty());
 }
 
 #[test]
 fn a_text_that_is_no_job_is_told(rt: HostRuntime) {
-    let (end, written) = ran(&rt, rt.alloc(), &Ends, "script 1", " b").expect(&rt, "no memory");
+    let gate = Ends { at: Ask::Turn };
+    let (end, written) = ran(&rt, rt.alloc(), &gate, "script 1", " b").expect(&rt, "no memory");
     assert!(rt; matches!(end, Err(RunTextError::Tool(_))));
     assert_eq!(rt; written.as_slice(), "line 1: fault 7\n".as_bytes());
 }

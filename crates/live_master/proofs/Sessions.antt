@@ -3,9 +3,8 @@ use Rattle.std.proofs.Common.{ℕ, ◌≡◌, ◌≢◌, ◌≤◌, ◌<◌, ◌
 use Rattle.std.proofs.Common.{sym, inl, inr, replicate, Option, Some, None, append-nil}
 use Rattle.std.specs.Prelude.{IfSome}
 use Rattle.std.specs.Option.{option_map}
-use Rattle.std.proofs.lemmas.List.{length-replicate}
+use Rattle.std.proofs.lemmas.List.{length-replicate, length-map}
 use Rattle.std.proofs.lemmas.List.Elements.{All-nil}
-use Rattle.std.proofs.lemmas.List.{length-map}
 use Rattle.text_lines.specs.Texts.{Line}
 use Rattle.text_lines.specs.declared.fault.Fault.{Fault}
 use Rattle.line_shapes.specs.Lines.{Statement}
@@ -18,11 +17,9 @@ use Rattle.line_talk.specs.declared.Turn.TheVariants.{Last, More}
 use Rattle.plan_text.specs.Names.{nth_word}
 use Rattle.plan_text.specs.Tidy.{AreTidy}
 use Rattle.plan_text.proofs.Tidy.{tidy-read}
-use Rattle.master_state.specs.Jobs.{Job}
+use Rattle.master_state.specs.Jobs.{Job, IsCommitted, present}
 use Rattle.master_state.specs.States.{Cluster, Setup, opening}
-use Rattle.master_state.specs.declared.answers.Why.TheVariants.{HistoryFull}
 use Rattle.master_state.specs.declared.states.Start.{Start}
-use Rattle.report_lines.specs.Lines.{ignored_line}
 use Rattle.script_text.specs.Commands.{IsKnownIn, SaysCommand}
 use Rattle.script_text.specs.Heads.{FitMaster}
 use Rattle.script_text.specs.Ready.{AreFew, IsWholeCommand, told_names}
@@ -36,13 +33,12 @@ use Rattle.script_text.proofs.Read.{fit_master-read}
 use Rattle.job_play.specs.Given.{HasRuns, HoldsRuns}
 use Rattle.job_play.specs.PlayAnswer.{cluster_in, declared_cluster}
 use Rattle.job_play.specs.Playing.{Ended, Performed}
-use Rattle.job_play.specs.Reports.{IsKnownCommand, LacksRoom, opening_job}
+use Rattle.job_play.specs.Reports.{IsKnownCommand, opening_job}
 use Rattle.job_play.specs.declared.player.PlayEnd.{PlayEnd}
 use Rattle.job_play.proofs.Answered.{same_cluster}
 use Rattle.job_play.proofs.Kept.{holds_runs}
 use Rattle.wave_problem.specs.Wave as planned
 use Rattle.price_certificate.specs.Certificate.{Certifies, claim}
-use Rattle.master_state.specs.Jobs.{IsCommitted, present}
 use Rattle.master_state.specs.Steps.{problem_of}
 use Rattle.master_state.specs.declared.answers.Wave.{Wave}
 use Rattle.plan_draft.specs.Drafts.{AreNamesOf, DraftView, IsSaid, said}
@@ -136,19 +132,6 @@ holds_none setup parts job is same = subst (HoldsRuns (replicate parts [])) (sym
   each = All-nil (λ (start : Start). HasRuns setup (replicate parts []) start.work);
 })
 
--- a new master of this cluster
-pub new_job : (cluster made : Cluster) (job : Job) → made ≡ cluster → job.setup ≡ served_on made
-    → job.history ≡ []
-    → job.state ≡ opening job.setup → job.results ≡ [] → job ≡ opening_job (served_on cluster)
-new_job cluster made job same setup history state results =
-    let is : job.setup ≡ served_on cluster = setup ∙ ap served_on same in
-    λ i. record {
-      setup = is i;
-      history = history i;
-      state = (state ∙ ap opening is) i;
-      results = results i;
-    }
-
 pub is_opened : (text : Line) (live : Live) (read : ScriptText) → IsOpening text read live.known
     → live.names ≡ read.script.names → live.target ≡ read.script.target → live.last ≡ None
     → live.draft ≡ no_draft live.names → live.job ≡ opening_job (served_on (cluster_in read.head))
@@ -210,60 +193,6 @@ ready_started old a wave job draft committed found certified named ready =
     (subst (λ (p : planned.Wave). Certifies (claim p a.plan.starts a.prices)) (sym found) certified) ready
 
 -- ---- a command
-
--- a command that is no wave is performed as in a script
-pub live_performed : (old new : Session) (c : Command) (before now : List ℕ) → c ≢ command.Wave
-    → live_of new ≡ record (live_of old) { job = new.master; last = option_map claim_of new.last }
-    → new.last ≡ old.last → Performed old.script.names old.script.target old.master c before now new.master
-    → PerformedLive old c before now new
-live_performed old new c before now other head last done = record {
-  out = done.out;
-  written = done.written;
-  performs = inr (inr (other, done.performs, ap (option_map claim_of) last));
-  head = head;
-}
-
--- a wave is started, and is kept
-pub live_started : (old new : Session) (before now : List ℕ) (a : Audited) (wave : Wave)
-    → a.problem ≡ problem_of old.master.setup old.master.state
-    → Certifies (present old.master a.plan.starts a.prices)
-    → IsCommitted old.master a.plan.starts wave new.master
-    → now ≡ before ++ wave_lines old.script.names a.plan.starts wave → new.last ≡ Some a
-    → live_of new ≡ record (live_of old) { job = new.master; last = option_map claim_of new.last }
-    → PerformedLive old command.Wave before now new
-live_started old new before now a wave found certified committed written last head = record {
-  out = wave_lines old.script.names a.plan.starts wave;
-  written = written;
-  performs = inl (
-    refl,
-    record {
-      shown = present old.master a.plan.starts a.prices;
-      found = refl;
-      certified = certified;
-      wave = wave;
-      committed = committed;
-      out_is = refl;
-      last = ap (option_map claim_of) last ∙ ap (λ (p : planned.Wave). Some (claim p a.plan.starts a.prices))
-          found;
-    },
-  );
-  head = head;
-}
-
--- a command whose starts have no room is ignored
-pub live_ignored : (old new : Session) (c : Command) (before now : List ℕ) → LacksRoom old.master c
-    → new.master ≡ old.master → new.last ≡ old.last → now ≡ before ++ ignored_line HistoryFull
-    → live_of new ≡ record (live_of old) { job = new.master; last = option_map claim_of new.last }
-    → PerformedLive old c before now new
-live_ignored old new c before now lacks same last written head = record {
-  out = ignored_line HistoryFull;
-  written = written;
-  performs = inr (inl (
-    record { lacks = lacks; out_is = refl; unchanged = same },
-    ap (option_map claim_of) last,
-  ));
-  head = head;
-}
 
 -- ---- a request
 

@@ -1,7 +1,6 @@
 //! A live master: one line after another is answered, each before the next one is read.
 ghost use Rattle.std.specs.Prelude.{◌≡◌, ◌≢◌, ◌+◌, ◌-◌, ◌++◌, ◌<◌, ◌≤◌, ◌^◌, [], IfErr, IfOk, OnOk, Some};
-ghost use Rattle.std.specs.Prelude.{length};
-ghost use Rattle.std.specs.Prelude.{string_bytes};
+ghost use Rattle.std.specs.Prelude.{length, string_bytes};
 ghost use Rattle.wave_problem.specs.Assignment.{pairs_of};
 ghost use Rattle.line_shapes.specs.Lines.{statement_of};
 ghost use Rattle.line_rules.specs.Reading.{IsFitLine, IsLeastError};
@@ -24,8 +23,7 @@ ghost use Rattle.live_master.specs.Requests.{IsRequest, word_of};
 ghost use Rattle.live_master.specs.Refusals.{refusal_line};
 ghost use Rattle.live_master.specs.Serving.{Committed, CommittedPlan, GoesOnHearing, Hears, IsOpen, IsOpened};
 ghost use Rattle.live_master.specs.Serving.{IsSession, Live, Obeys, PerformedLive, Replies, Told, live_of};
-ghost use Rattle.live_master.specs.Serving.{no_draft};
-ghost use Rattle.live_master.specs.Serving.{served_on};
+ghost use Rattle.live_master.specs.Serving.{no_draft, served_on};
 ghost use Rattle.live_master.specs.Sessions.{CutsOff, IsEndOf, IsHead, Serves, ServesLines, TakesHeadLine};
 ghost use Rattle.live_master.specs.Sessions.{Writes};
 

@@ -1,5 +1,6 @@
 use line_rules::{KnownLines, Purpose, ReadingError, read_lines};
 use std::alloc::Global;
+use std::process::Abort;
 
 /// The line and the number of a text's fault, None where it has none or memory ran out.
 pub fn fault_in(alloc: Global, purpose: Purpose, text: &[u8]) -> Option<(u32, u8)> {
@@ -16,8 +17,20 @@ pub fn fault_of(alloc: Global, purpose: Purpose, text: &str) -> Option<(u32, u8)
     fault_in(alloc, purpose, text.as_bytes())
 }
 
+/// What follows a head, with the fault of the whole text.
+pub type Row = (&'static str, Option<(u32, u8)>);
+
+/// The texts of this head have these faults.
+pub fn have_faults(rt: &impl Abort, alloc: Global, purpose: Purpose, head: &str, rows: &[Row]) {
+    for (rest, fault) in rows {
+        let text = format!(in alloc; "{head}{rest}").expect(rt, "no text");
+        let told = fault_of(alloc, purpose, &text);
+        assert_eq!(rt; told, *fault, "{text}");
+    }
+}
+
 // Texts to plan from.
-const TO_PLAN: [(&str, Option<(u32, u8)>); 38] = [
+const TO_PLAN: [Row; 38] = [
     ("problem 1\nend\n", None),
     (
         "problem 1\nrack r\nworker a r 16\nsplit s 67108864 a\nend\n",
@@ -81,17 +94,11 @@ const TO_PLAN: [(&str, Option<(u32, u8)>); 38] = [
 
 #[test]
 fn texts_to_plan_from(rt: HostRuntime) {
-    for (text, fault) in TO_PLAN {
-        assert_eq!(rt;
-            fault_of(rt.alloc(), Purpose::Planning, text),
-            fault,
-            "{text}"
-        );
-    }
+    have_faults(&rt, rt.alloc(), Purpose::Planning, "", &TO_PLAN);
 }
 
 // What stands after the head of a text to check, whose first line is the fifth.
-const PLANS: [(&str, Option<(u32, u8)>); 9] = [
+const PLANS: [Row; 9] = [
     (
         "plan\nstart s a\nprice s 0\nprice a 18446744073709551615\nend\n",
         None,
@@ -108,19 +115,12 @@ const PLANS: [(&str, Option<(u32, u8)>); 9] = [
 
 #[test]
 fn texts_to_check(rt: HostRuntime) {
-    for (plan, fault) in PLANS {
-        let head = "problem 1\nrack r\nworker a r 1\nsplit s 1 a\n";
-        let text = format!(in rt.alloc(); "{head}{plan}").expect(&rt, "no text");
-        assert_eq!(rt;
-            fault_of(rt.alloc(), Purpose::Checking, &text),
-            fault,
-            "{plan}"
-        );
-    }
+    let head = "problem 1\nrack r\nworker a r 1\nsplit s 1 a\n";
+    have_faults(&rt, rt.alloc(), Purpose::Checking, head, &PLANS);
 }
 
 // What stands after the head of a text to check of version 3, whose first line is the sixth.
-const PLACES: [(&str, Option<(u32, u8)>); 17] = [
+const PLACES: [Row; 17] = [
     ("places a 0\nplan\nprice s 0\nprice a 0\nend\n", None),
     (
         "places a 0 7 7 68719476736\nplan\nprice s 0\nprice a 0\nend\n",
@@ -147,42 +147,22 @@ const THIRD: &str = "problem 3\ncentre c\nrack r c\nworker a r 2\nsplit s 1 a\n"
 
 #[test]
 fn prices_of_places(rt: HostRuntime) {
-    for (after, fault) in PLACES {
-        let text = format!(in rt.alloc(); "{THIRD}{after}").expect(&rt, "no text");
-        assert_eq!(rt;
-            fault_of(rt.alloc(), Purpose::Checking, &text),
-            fault,
-            "{after}"
-        );
-    }
+    have_faults(&rt, rt.alloc(), Purpose::Checking, THIRD, &PLACES);
 }
 
 #[test]
-fn places_stand_in_texts_to_check_of_version_3_alone(rt: HostRuntime) {
-    for (purpose, head) in [
-        (
-            Purpose::Checking,
-            "problem 2\ncentre c\nrack r c\nworker a r 2\n",
-        ),
-        (
-            Purpose::Planning,
-            "problem 3\ncentre c\nrack r c\nworker a r 2\n",
-        ),
-        (
-            Purpose::Playing,
-            "script 3\ncentre c\nrack r c\nworker a r 2\n",
-        ),
-        (
-            Purpose::Running,
-            "job 3\ncentre c\nrack r c\nworker a r 2\n",
-        ),
+fn places_stand_in_problems_of_version_3_alone(rt: HostRuntime) {
+    for (purpose, first) in [
+        (Purpose::Checking, "problem 2"),
+        (Purpose::Planning, "problem 2"),
+        (Purpose::Playing, "script 3"),
+        (Purpose::Running, "job 3"),
     ] {
-        let text = format!(in rt.alloc(); "{head}places a 1\n").expect(&rt, "no text");
-        assert_eq!(rt;
-            fault_of(rt.alloc(), purpose, &text),
-            Some((5, 7)),
-            "{text}"
+        let head = format!(in rt.alloc(); "{first}\ncentre c\nrack r c\nworker a r 2\n").expect(
+            &rt, "no text",
         );
+        let rows = [("places a 1\n", Some((5, 7)))];
+        have_faults(&rt, rt.alloc(), purpose, &head, &rows);
     }
 }
 
@@ -207,11 +187,8 @@ fn no_more_prices_than_a_worker_has_slots(rt: HostRuntime) {
         (255, " 0", (6, 1)),
         (300, " 68719476737", (6, 1)),
     ] {
-        assert_eq!(rt;
-            fault_of_prices(rt.alloc(), prices, last),
-            Some(fault),
-            "{prices}{last}"
-        );
+        let told = fault_of_prices(rt.alloc(), prices, last);
+        assert_eq!(rt; told, Some(fault), "{prices}{last}");
     }
 }
 
@@ -227,61 +204,27 @@ const NINE: &str = "a b c d e f g h i";
 
 const SIXTEEN: &str = "a b c d e f g h i j k l m n o p";
 
-const SEVENTEEN: &str = "a b c d e f g h i j k l m n o p q";
+const ALL: &str = "a b c d e f g h i j k l m n o p q";
 
-// What a text is read for, how it begins, the holders of its one split, and its fault.
-const HELD: [(Purpose, &str, &str, Option<(u32, u8)>); 11] = [
-    (Purpose::Planning, "problem 1\nrack r\n", EIGHT, None),
-    (
-        Purpose::Planning,
-        "problem 1\nrack r\n",
-        NINE,
-        Some((20, 6)),
-    ),
-    (
-        Purpose::Planning,
-        "problem 3\ncentre z\nrack r z\n",
-        SIXTEEN,
-        None,
-    ),
-    (
-        Purpose::Planning,
-        "problem 3\ncentre z\nrack r z\n",
-        SEVENTEEN,
-        Some((21, 6)),
-    ),
-    (
-        Purpose::Checking,
-        "problem 3\ncentre z\nrack r z\n",
-        SEVENTEEN,
-        Some((21, 6)),
-    ),
-    (Purpose::Playing, "script 1\nrack r\n", EIGHT, None),
-    (Purpose::Playing, "script 1\nrack r\n", NINE, Some((20, 6))),
-    (
-        Purpose::Playing,
-        "script 3\ncentre z\nrack r z\n",
-        SIXTEEN,
-        None,
-    ),
-    (
-        Purpose::Playing,
-        "script 3\ncentre z\nrack r z\n",
-        SEVENTEEN,
-        Some((21, 6)),
-    ),
-    (
-        Purpose::Running,
-        "job 3\ncentre z\nrack r z\n",
-        SIXTEEN,
-        None,
-    ),
-    (
-        Purpose::Running,
-        "job 3\ncentre z\nrack r z\n",
-        SEVENTEEN,
-        Some((21, 6)),
-    ),
+// The rack of a first version, and of a later one.
+const RACK: &str = "rack r";
+
+const CENTRE: &str = "centre z\nrack r z";
+
+// What a text is read for, its first line, its racks, the holders of its one split, and the line that names
+// too many.
+const HELD: [(Purpose, &str, &str, &str, Option<u32>); 11] = [
+    (Purpose::Planning, "problem 1", RACK, EIGHT, None),
+    (Purpose::Planning, "problem 1", RACK, NINE, Some(20)),
+    (Purpose::Planning, "problem 3", CENTRE, SIXTEEN, None),
+    (Purpose::Planning, "problem 3", CENTRE, ALL, Some(21)),
+    (Purpose::Checking, "problem 3", CENTRE, ALL, Some(21)),
+    (Purpose::Playing, "script 1", RACK, EIGHT, None),
+    (Purpose::Playing, "script 1", RACK, NINE, Some(20)),
+    (Purpose::Playing, "script 3", CENTRE, SIXTEEN, None),
+    (Purpose::Playing, "script 3", CENTRE, ALL, Some(21)),
+    (Purpose::Running, "job 3", CENTRE, SIXTEEN, None),
+    (Purpose::Running, "job 3", CENTRE, ALL, Some(21)),
 ];
 
 // How a text ends that is read for this.
@@ -294,15 +237,13 @@ fn last_lines(purpose: Purpose) -> &'static str {
 
 #[test]
 fn holders_past_the_most(rt: HostRuntime) {
-    for (purpose, first, holders, fault) in HELD {
+    for (purpose, first, racks, holders, line) in HELD {
         let end = last_lines(purpose);
-        let text = format!(in rt.alloc(); "{first}{WORKERS}split s 1 {holders}\n{end}").expect(
+        let head = format!(in rt.alloc(); "{first}\n{racks}\n{WORKERS}").expect(&rt, "no text");
+        let text = format!(in rt.alloc(); "{head}split s 1 {holders}\n{end}").expect(
             &rt, "no text",
         );
-        assert_eq!(rt;
-            fault_of(rt.alloc(), purpose, &text),
-            fault,
-            "{first}{holders}"
-        );
+        let told = fault_of(rt.alloc(), purpose, &text);
+        assert_eq!(rt; told, line.map(|line| (line, 6)), "{text}");
     }
 }

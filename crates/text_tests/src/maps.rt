@@ -80,10 +80,8 @@ fn two_documents_in_two_parts(rt: HostRuntime) {
     let made = map_split(rt.alloc(), shared, 2).expect(&rt, "no result");
     let first: [Row; 2] = [("cat", &[0, 1]), ("dog", &[1])];
     assert!(rt; runs_are(&rt, &made, &first, &[("the", &[0, 1])]));
-    assert_eq!(rt;
-        told_of_last(&rt, &made, &text),
-        (PartNo::new(1), 2, [true; 2])
-    );
+    let told = told_of_last(&rt, &made, &text);
+    assert_eq!(rt; told, (PartNo::new(1), 2, [true; 2]));
 }
 
 #[test]

@@ -1,4 +1,4 @@
-use crate::faults::{fault_in, fault_of};
+use crate::faults::{Row as FaultRow, fault_in, fault_of, have_faults};
 use line_rules::{Purpose, Row, Version, read_lines};
 use line_shapes::Keyword;
 use std::alloc::{AllocError, Global};
@@ -6,7 +6,7 @@ use text_lines::NameTable;
 
 // What stands in a script after `script 1`, a rack r, the workers a and b and a split s: its lines from the
 // sixth on.
-const IN_SCRIPTS: [(&str, Option<(u32, u8)>); 30] = [
+const IN_SCRIPTS: [FaultRow; 30] = [
     (
         "parts 64\ntarget 8\nsilence 1000\ndoc d s \ndoc e s\nbegin\nend\n",
         None,
@@ -44,99 +44,75 @@ const IN_SCRIPTS: [(&str, Option<(u32, u8)>); 30] = [
 
 #[test]
 fn faults_of_scripts(rt: HostRuntime) {
-    for (rest, fault) in IN_SCRIPTS {
-        let head = "script 1\nrack r\nworker a r 1\nworker b r 1\nsplit s 5 a\n";
-        let text = format!(in rt.alloc(); "{head}{rest}").expect(&rt, "no text");
-        assert_eq!(rt;
-            fault_of(rt.alloc(), Purpose::Playing, &text),
-            fault,
-            "{rest}"
-        );
-    }
+    let head = "script 1\nrack r\nworker a r 1\nworker b r 1\nsplit s 5 a\n";
+    have_faults(&rt, rt.alloc(), Purpose::Playing, head, &IN_SCRIPTS);
 }
 
 // Texts of each kind, with the fault that each has.
-const TEXTS: [(Purpose, &str, Option<(u32, u8)>); 26] = [
+const TO_PLAY: [FaultRow; 10] = [
     (
-        Purpose::Playing,
         "script 1\nrack r\nworker a r 1\nbegin\nsweep 1 2\nend\n",
         Some((5, 1)),
     ),
-    (Purpose::Playing, "sweep 1\n", Some((1, 1))),
-    (Purpose::Playing, "sweep\n", Some((1, 7))),
-    (Purpose::Playing, "job 1\n", Some((1, 7))),
-    (Purpose::Playing, "script 4\n", Some((1, 5))),
-    (Purpose::Playing, "script 0\n", Some((1, 5))),
-    (Purpose::Playing, "script 2\nscript 9\n", Some((2, 7))),
+    ("sweep 1\n", Some((1, 1))),
+    ("sweep\n", Some((1, 7))),
+    ("job 1\n", Some((1, 7))),
+    ("script 4\n", Some((1, 5))),
+    ("script 0\n", Some((1, 5))),
+    ("script 2\nscript 9\n", Some((2, 7))),
+    ("script 2\nrack r\n", Some((2, 1))),
+    ("script 2\nrack r r\n", Some((2, 3))),
+    ("script 2\ncentre x\nrack x x\n", Some((3, 4))),
+];
+
+const TO_RUN: [FaultRow; 3] = [
+    ("job 1\nparts 2\nend\n", None),
+    ("job 1\nbegin\nend\n", Some((2, 7))),
+    ("job 1\nwave\nend\n", Some((2, 7))),
+];
+
+const TO_PLAN: [FaultRow; 5] = [
+    ("problem 2\nrack r\nend\n", Some((2, 1))),
+    ("problem 1\ncentre x\nend\n", Some((2, 7))),
     (
-        Purpose::Playing,
-        "script 2\ncentre x\nrack r x\nworker a r 1\nsplit s 0\nbegin\nbackup s a\nend\n",
-        None,
-    ),
-    (Purpose::Playing, "script 2\nrack r\n", Some((2, 1))),
-    (Purpose::Playing, "script 2\nrack r r\n", Some((2, 3))),
-    (
-        Purpose::Playing,
-        "script 2\ncentre x\nrack x x\n",
-        Some((3, 4)),
-    ),
-    (
-        Purpose::Playing,
-        "script 3\ncentre x\nrack r x\nworker a r 1\nbegin\nahead 0\nahead 255\nend\n",
-        None,
-    ),
-    (
-        Purpose::Playing,
-        "script 3\ncentre x\nrack r x\nworker a r 1\nbegin\nahead 256\nend\n",
-        Some((6, 5)),
-    ),
-    (
-        Purpose::Playing,
-        "script 3\ncentre x\nrack r x\nworker a r 1\nbegin\nahead\nend\n",
-        Some((6, 1)),
-    ),
-    (
-        Purpose::Playing,
-        "script 3\ncentre x\nrack r x\nworker a r 1\nbegin\nahead 1 1\nend\n",
-        Some((6, 1)),
-    ),
-    (
-        Purpose::Playing,
-        "script 3\ncentre x\nrack r x\nworker a r 1\nahead 1\nbegin\nend\n",
-        Some((5, 7)),
-    ),
-    (
-        Purpose::Playing,
-        "script 2\ncentre x\nrack r x\nworker a r 1\nbegin\nahead 1\nend\n",
-        Some((6, 7)),
-    ),
-    (Purpose::Running, "job 1\nparts 2\nend\n", None),
-    (Purpose::Running, "job 1\nbegin\nend\n", Some((2, 7))),
-    (Purpose::Running, "job 1\nwave\nend\n", Some((2, 7))),
-    (Purpose::Planning, "problem 2\nrack r\nend\n", Some((2, 1))),
-    (
-        Purpose::Planning,
-        "problem 1\ncentre x\nend\n",
-        Some((2, 7)),
-    ),
-    (
-        Purpose::Planning,
         "problem 2\ncentre x\ncentre y\nrack r x\nrack q y\nworker a r 0\nworker b q 1\nsplit s 7 a\nend\n",
         None,
     ),
-    (Purpose::Planning, "problem 1\nwave\nend\n", Some((2, 7))),
-    (
-        Purpose::Planning,
-        "problem 1\ndoc d s  x\nend\n",
-        Some((2, 7)),
-    ),
-    (Purpose::Checking, "script 1\n", Some((1, 7))),
+    ("problem 1\nwave\nend\n", Some((2, 7))),
+    ("problem 1\ndoc d s  x\nend\n", Some((2, 7))),
 ];
 
 #[test]
 fn faults_of_each_kind(rt: HostRuntime) {
-    for (purpose, text, fault) in TEXTS {
-        assert_eq!(rt; fault_of(rt.alloc(), purpose, text), fault, "{text}");
+    let alloc = rt.alloc();
+    have_faults(&rt, alloc, Purpose::Playing, "", &TO_PLAY);
+    have_faults(&rt, alloc, Purpose::Running, "", &TO_RUN);
+    have_faults(&rt, alloc, Purpose::Planning, "", &TO_PLAN);
+    let script = [("script 1\n", Some((1, 7)))];
+    have_faults(&rt, alloc, Purpose::Checking, "", &script);
+}
+
+// What stands in a script with one worker, from its fifth line on: of version 2, and of version 3.
+const BACKUPS: [FaultRow; 2] = [
+    ("split s 0\nbegin\nbackup s a\nend\n", None),
+    ("begin\nahead 1\nend\n", Some((6, 7))),
+];
+
+const AHEADS: [FaultRow; 5] = [
+    ("begin\nahead 0\nahead 255\nend\n", None),
+    ("begin\nahead 256\nend\n", Some((6, 5))),
+    ("begin\nahead\nend\n", Some((6, 1))),
+    ("begin\nahead 1 1\nend\n", Some((6, 1))),
+    ("ahead 1\nbegin\nend\n", Some((5, 7))),
+];
+
+#[test]
+fn commands_of_later_versions(rt: HostRuntime) {
+    for (first, rows) in [("script 2", &BACKUPS[..]), ("script 3", &AHEADS[..])] {
+        let head = format!(in rt.alloc(); "{first}\ncentre x\nrack r x\nworker a r 1\n").expect(
+            &rt, "no text",
+        );
+        have_faults(&rt, rt.alloc(), Purpose::Playing, &head, rows);
     }
 }
 
@@ -335,11 +311,8 @@ fn none_entered(alloc: Global, text: &str) -> Option<[bool; 3]> {
 fn a_problem_may_be_empty(rt: HostRuntime) {
     for (rest, empty) in [("end\n", true), ("rack r\nend\n", false)] {
         let text = format!(in rt.alloc(); "problem 1\n{rest}").expect(&rt, "no text");
-        assert_eq!(rt;
-            none_entered(rt.alloc(), &text),
-            Some([empty, true, true]),
-            "{rest}"
-        );
+        let told = none_entered(rt.alloc(), &text);
+        assert_eq!(rt; told, Some([empty, true, true]), "{rest}");
     }
 }
 
