@@ -11,6 +11,8 @@ mod arc_counts;
 #[cfg(test)]
 mod centres;
 #[cfg(test)]
+mod charges;
+#[cfg(test)]
 mod clusters;
 #[cfg(test)]
 mod distances;

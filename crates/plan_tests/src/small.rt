@@ -20,7 +20,15 @@ pub struct Split {
     pub barred_on: [bool; 4],
 }
 
-/// A problem with at most four splits and workers, in three racks of so many data centres, at least one.
+/// The prices of a worker's places, so many, rising. A place past the last price costs as much as that.
+#[derive(Clone, Copy, Default)]
+pub struct Places {
+    pub count: usize,
+    pub price: [u64; 3],
+}
+
+/// A problem with at most four splits and workers, in three racks of so many data centres, at least one. The
+/// places on workers have no prices, or these.
 #[derive(Clone, Copy, Default)]
 pub struct Small {
     pub splits: usize,
@@ -29,6 +37,7 @@ pub struct Small {
     pub centre_of: [u8; 3],
     pub split: [Split; 4],
     pub worker: [Worker; 4],
+    pub places: [Places; 4],
 }
 
 /// No worker.
@@ -46,7 +55,7 @@ pub struct Row {
     pub centres: (u8, [u8; 3]),
 }
 
-/// How many splits start, and the byte-distance of the starts together.
+/// How many splits start, and what they are charged: their byte-distance and the prices of their places.
 #[derive(Clone, Copy, Debug, Default, PartialEq, Eq)]
 pub struct Value {
     pub count: usize,
@@ -79,6 +88,29 @@ fn random_split(random: &mut Random, workers: usize) -> Split {
     split
 }
 
+fn random_places(random: &mut Random) -> Places {
+    let mut places = Places {
+        count: random.below(4) as usize,
+        ..Places::default()
+    };
+    let mut price: u64 = 0;
+    for k in 0..3usize {
+        price = price.wrapping_add(random.one_of(&[0, 0, 1, 2, 6, 20, 90, 17_179_869_184]));
+        places.price[k] = price;
+    }
+    places
+}
+
+impl Places {
+    // The price of a place, the first being 0.
+    fn of(&self, place: usize) -> u64 {
+        match self.count.checked_sub(1) {
+            Some(last) => self.price.get(place.min(last)).copied().unwrap_or(0),
+            None => 0,
+        }
+    }
+}
+
 // One of four, or none.
 fn only(place: usize) -> [bool; 4] {
     let mut only = [false; 4];
@@ -107,6 +139,18 @@ impl Small {
             }
             if i < small.splits {
                 small.split[i] = random_split(random, small.workers);
+            }
+        }
+        small
+    }
+
+    /// A problem made by chance, in which places have prices.
+    pub fn priced(random: &mut Random) -> Small {
+        let mut small = Small::random(random);
+        for i in 0..4usize {
+            if i < small.workers {
+                small.worker[i].free = random.one_of(&[0, 1, 2, 4]);
+                small.places[i] = random_places(random);
             }
         }
         small
@@ -214,15 +258,15 @@ impl Small {
     // admissible.
     fn value(&self, choice: [usize; 4]) -> Option<Value> {
         let mut value = Value::default();
-        let mut left = [0; 4];
-        for w in 0..4usize {
-            left[w] = self.worker[w].free;
-        }
+        let mut taken = [0usize; 4];
         for s in 0..4usize {
             let w = choice[s];
             if w < 4 {
-                let cost = self.cost(s, w)?;
-                left[w] = left[w].checked_sub(1)?;
+                let cost = self.cost(s, w)?.wrapping_add(self.places[w].of(taken[w]));
+                if taken[w] >= usize::from(self.worker[w].free) {
+                    return None;
+                }
+                taken[w] += 1;
                 value.count = value.count.wrapping_add(1);
                 value.cost = value.cost.wrapping_add(cost);
             }

@@ -2,6 +2,7 @@
 use crate::clusters::{Centres, empty_racks};
 use crate::small::{Small, Split, Worker};
 use node_ids::{PairSet, RackNo, SplitNo, WorkerNo};
+use price_certificate::PlacePrices;
 use rack_tree::RackTree;
 use std::alloc::{AllocError, Global};
 use std::process::Abort;
@@ -84,6 +85,17 @@ pub fn of(rt: &impl Abort, alloc: Global, small: &Small) -> Problem {
     let workers = &small.worker[..small.workers.min(4)];
     let splits = &small.split[..small.splits.min(4)];
     problem(rt, alloc, centres, workers, splits)
+}
+
+/// The prices of the places of a small problem.
+pub fn places_of(rt: &impl Abort, alloc: Global, small: &Small) -> PlacePrices {
+    let mut rows = Vec::new(alloc);
+    for places in &small.places[..small.workers.min(4)] {
+        let row = &places.price[..places.count.min(3)];
+        rows.push(row.to_vec(alloc).expect(rt, "no prices"))
+            .expect(rt, "no prices");
+    }
+    PlacePrices::from_rows(rows).expect(rt, "no prices of places")
 }
 
 /// A worker without slots holds 1,024 splits of so many bytes; 64 workers of 16 slots stand in another rack.
