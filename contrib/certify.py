@@ -55,6 +55,13 @@ class Wave:
         prices = self.place_prices[w]
         return sum(prices[:places]) + prices[-1] * max(0, places - len(prices))
 
+    def figures(self):
+        """The number of starts, their byte-distance and, where places have prices, what the taken places cost."""
+        found = [len(self.started), sum(self.cost(s, w) for s, w in self.started)]
+        if self.text.place_prices:
+            found.append(sum(self.places_cost(w, self.load[w]) for w in self.workers))
+        return found
+
     def sum(self, s, w):
         return self.price[s] + self.slot_price[w] + self.cost(s, w)
 
@@ -130,10 +137,7 @@ def answer(data):
         places = [] if s is None else [wave.split_names[s]]
         places += [] if w is None else [wave.worker_names[w]]
         return " ".join(["refused", name, *places]), 1
-    figures = [len(wave.started), sum(wave.cost(s, w) for s, w in wave.started)]
-    if wave.text.place_prices:
-        figures.append(sum(wave.places_cost(w, wave.load[w]) for w in wave.workers))
-    return " ".join(["certified", *map(str, figures)]), 0
+    return " ".join(["certified", *map(str, wave.figures())]), 0
 
 
 def main():

@@ -3,14 +3,16 @@
 
 The problem is read from standard input. The network is the direct one of docs/MODEL.md: an arc from each pending split
 to each worker on which it may start, at what that costs, one to where splits wait, at the reward K, and from there and
-from each worker to the sink. Each pending split sends one unit. A least flow is a best plan: where it costs F, F // K
-splits wait, and the others start at a byte-distance of F % K. Comments tell K and name each node.
+from each worker to the sink; where places have prices, one for the places of each price. Each pending split sends one unit. A
+least flow is a best plan: where it costs F, F // K splits wait, and the others start at a byte-distance, with the prices
+of their places, of F % K. Comments tell K and name each node.
 
     contrib/dimacs_of_problem.py < examples/plan_swap.txt
 
 writes `p min 6 9` and the lines of 6 nodes and 9 arcs, over which a least flow costs 20.
 """
 import argparse
+import itertools
 import signal
 import sys
 
@@ -30,9 +32,15 @@ def network(wave):
         takers = [w for w in wave.workers if wave.is_open[s] and wave.text.free[w] and wave.may_take(s, w)]
         arcs += [(s + 1, splits + w + 1, 1, wave.cost(s, w)) for w in takers]
         arcs.append((s + 1, waiting, 1, wave.reward))
-    arcs += [(splits + w + 1, sink, wave.text.free[w], 0) for w in wave.workers]
+    arcs += [(splits + w + 1, sink, *places) for w in wave.workers for places in places_of(wave, w)]
     arcs.append((waiting, sink, len(pending), 0))
     return pending, arcs
+
+
+def places_of(wave, w):
+    """How many places of a worker have one price after another, and these prices."""
+    prices = [wave.place_price(w, place) for place in range(wave.text.free[w])]
+    return [(len([*some]), price) for price, some in itertools.groupby(prices)] or [(0, 0)]
 
 
 def lines(wave):

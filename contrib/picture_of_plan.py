@@ -34,9 +34,10 @@ class Sizes:
 def draw_plan(problem, answer):
     """Draws a plan; a Fault where the answer is no plan of the problem."""
     wave = starts(problem, answer)
-    cost = sum(wave.cost(s, w) for s, w in wave.started)
+    count, cost, *places = wave.figures()
     pending = [s for s in wave.splits if ("busy", wave.split_names[s]) not in wave.text.marks]
-    head = f"{len(wave.started):,} of {len(pending):,} pending splits start, at a byte-distance of {cost:,}"
+    head = f"{count:,} of {len(pending):,} pending splits start, at a byte-distance of {cost:,}"
+    head += "".join(f", on places that cost {price:,}" for price in places)
     drawing = Drawing(head)
     drawing.text(0, 14, head, 15)
     legend(drawing, wave)

@@ -1,10 +1,11 @@
 #!/usr/bin/env python3
-"""Plans a wave in which places on workers have prices, and writes the text that `mrjob check` certifies.
+"""Plans a wave in which places on workers may have prices, as `mrjob plan` does, and writes the text that `mrjob check`
+certifies: an independent reference, in plain Python.
 
-The problem is read from standard input; it is of version 3. A line `places WORKER P1 .. Pn` tells what the
-first split that starts on the worker is charged beside its byte-distance, what the second split is, and so
-on. A best plan starts as many splits as can start, at the least charge in all. The script writes the problem
-with a best plan and with prices that prove it best. So nobody needs to trust the script.
+The problem is read from standard input. In version 3 a line `places WORKER P1 .. Pn` tells what the first
+split that starts on the worker is charged beside its byte-distance, what the second split is, and so on. A
+best plan starts as many splits as can start, at the least charge in all. The script writes the problem with a
+best plan and with prices that prove it best. So nobody needs to trust the script.
 
     contrib/plan_places.py < examples/plan_places.txt | bin/mrjob check
 
@@ -94,7 +95,7 @@ class Planner:
 
 def planned(data):
     """The text of a problem with a best plan and its prices."""
-    wave = Wave(read(data, has_plan=False, may_price_places=True))
+    wave = Wave(read(data, has_plan=False))
     planner = Planner(wave)
     for split in wave.splits:
         planner.ship(split)

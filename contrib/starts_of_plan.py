@@ -3,8 +3,8 @@
 
 The answer is read from standard input, the problem from its file. A row has the split, the worker, the worker's rack,
 the distance to the nearest live replica (0, 2, 4 or 6), and the bytes that move: those of the split, or none on a
-holder. Distance times bytes, summed, is the cost of the plan. The status is 1 where the answer is no plan of the
-problem.
+holder. Distance times bytes, summed, is the cost of the plan; what its places cost stands in no row. The status is 1
+where the answer is no plan of the problem.
 
     contrib/starts_of_plan.py examples/plan_swap.txt < examples/plan_swap.out
 
@@ -39,9 +39,9 @@ def starts(problem, answer):
     for s, w in wave.started:
         if not wave.is_open[s] or not wave.may_take(s, w) or wave.load[w] > text.free[w]:
             raise Fault(f"{wave.split_names[s]} may not start on {wave.worker_names[w]}")
-    cost = sum(wave.cost(s, w) for s, w in wave.started)
-    if first != ["wave", str(len(wave.started)), str(cost)]:
-        raise Fault(f"`{' '.join(first)}` is not `wave {len(wave.started)} {cost}`, to which its starts come")
+    wanted = ["wave", *map(str, wave.figures())]
+    if first != wanted:
+        raise Fault(f"`{' '.join(first)}` is not `{' '.join(wanted)}`, to which its starts come")
     return wave
 
 

@@ -42,11 +42,9 @@ def is_greater(number, other):
 class Text:
     """What the lines so far declare; names of a kind are numbered as they come."""
 
-    def __init__(self, has_plan, may_price_places):
+    def __init__(self, has_plan):
         self.has_plan, self.lines, self.version = has_plan, 0, 1
         self.section = {*HEAD, "plan" if has_plan else "end"}
-        if not may_price_places:
-            self.section.remove("places")
         self.kinds, self.numbers = {}, {kind: {} for kind in MOST}
         self.centre_of, self.rack_of, self.free, self.bytes, self.holders = [], [], [], [], []
         self.marks, self.starts, self.prices, self.place_prices = set(), {}, {}, {}
@@ -137,14 +135,13 @@ class Text:
             self.marks.add((keyword, *words))
 
 
-def read(data, has_plan, may_price_places=None):
-    """What a problem's text declares, or its least fault. Unless something else is said, places may have
-    prices only where there is a plan."""
+def read(data, has_plan):
+    """What a problem's text declares, or its least fault."""
     is_long = data.startswith((b"problem 3\n", b"script 3\n", b"job 3\n"))
     if len(data) > (268_435_456 if is_long else 16_777_216):
         raise Fault("line 0: fault 11")
     *lines, rest = data.decode("latin-1").split("\n")
-    text = Text(has_plan, has_plan if may_price_places is None else may_price_places)
+    text = Text(has_plan)
     for number, line in enumerate(lines, 1):
         if re.search("[^ -~]", line):
             raise Fault(f"line {number}: fault 13")

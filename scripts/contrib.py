@@ -6,9 +6,9 @@
 The examples in each script's help run, and a script whose reader leaves ends quietly. certify.py answers what `check`
 answers: the examples, 860 made texts and those at the limits on counts. The starts of plans come to their cost. A least
 flow over dimacs_of_problem.py's network, by a search of its own, starts and costs what `plan` says, and so does
-plan_places.py where places have no prices. The jobs and scripts of job_of_files.py have the index that is made
-here of the files, lie on workers as HDFS places blocks, and past a limit none is written. The pictures of the docs are what picture.py makes of the samples anew, whose answers are a
-best plan and a report; pictures of many shapes fit a page, and a history is drawn as its report is. What `make install`
+plan_places.py. The jobs and scripts of job_of_files.py have the index that is made here of the files, lie on workers as
+HDFS places blocks, and past a limit none is written. The pictures of the docs are what picture.py makes of the samples
+anew, whose answers are a best plan and a report; pictures of many shapes fit a page, and a history is drawn as its report is. What `make install`
 puts into an empty folder runs from there, and `make uninstall` leaves nothing. README's commands write what it shows of
 them, and each link of the documents leads somewhere. The last line counts.
 """
@@ -173,11 +173,18 @@ def certified(count, program):
 
 
 def problems():
-    """The examples that are planned, and made problems, without those that have a fault."""
+    """The examples that are planned, and made problems, also with prices of places, without those that have a fault."""
     for path in sorted(EXAMPLES.glob("plan_*.txt")):
         if path.with_suffix(".status").read_text().strip() == "0":
             yield path.read_bytes()
     yield from made("problem", 40)
+    yield from made("placed_problem", 40)
+
+
+def charged(line):
+    """How many splits start by the first line of a plan or of a check, and what they are charged in all."""
+    _, started, *costs = line.split()
+    return int(started), sum(map(int, costs))
 
 
 def started(count, program):
@@ -195,7 +202,8 @@ def started(count, program):
             cost = sum(int(row["distance"]) * int(row["bytes_moved"]) for row in rows)
             starts = [f"start {row['split']} {row['worker']}".encode() for row in rows]
             same = [{key: str(value) for key, value in json.loads(it).items()} for it in objects] == rows
-            if not same or plan.splitlines()[: len(rows) + 1] != [f"wave {len(rows)} {cost}".encode(), *starts]:
+            first, *lines = plan.splitlines()
+            if not same or first.split()[:3] != f"wave {len(rows)} {cost}".encode().split() or lines[: len(rows)] != starts:
                 wrong.append((text, plan, rows))
     count.none("the starts of made problems", wrong)
     for name, false in {
@@ -266,8 +274,8 @@ def flows(count, program):
         pending = sum(line.startswith("n ") for line in lines) - 1
         nodes, arcs = map(int, lines[1].split()[2:])
         shape = (sum(it.startswith("c node") for it in lines), sum(it.startswith("a ") for it in lines))
-        plan = f"wave {pending - flow // reward} {flow % reward}"
-        if (nodes, arcs) != shape or said([program, "plan"], text)[0].splitlines()[:1] != [plan.encode()]:
+        least, plan = (pending - flow // reward, flow % reward), said([program, "plan"], text)[0].splitlines()[0]
+        if (nodes, arcs) != shape or charged(plan) != least:
             wrong.append((text, lines, plan))
     count.none("least flows cost what plans cost", wrong)
     out, _, status = script("dimacs_of_problem.py", given=b"problem 3\n")
@@ -275,12 +283,12 @@ def flows(count, program):
 
 
 def priced(count, program):
-    """Where places have no prices, plan_places.py starts as many splits at the same cost as the plan."""
+    """plan_places.py starts as many splits at the same charge as the plan."""
     wrong = []
     for text in problems():
         plan = said([program, "plan"], text)[0].decode().splitlines()[0]
         certified = said([program, "check"], planned(text).encode())[0].decode()
-        if certified.split() != ["certified", *plan.split()[1:]]:
+        if not certified.startswith("certified ") or charged(certified) != charged(plan):
             wrong.append((text, plan, certified))
     count.none("plans of plan_places.py cost what plans cost", wrong)
     out, _, status = script("plan_places.py", given=b"problem 3\n")

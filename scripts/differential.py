@@ -8,7 +8,8 @@ The texts are the same in each run: what `make_texts.py KIND SEED` makes of the 
 some examples, a script with a death more at each of its places, problems of up to 4,000 splits or 32,768
 workers, and texts at the limits on counts, bytes and prices. A check's answer has to be the reference's. A plan
 with its prices, over either network, has to start as many splits at as little cost as any choice of starts, and
-to be certified by the reference; without prices its lines are the same up to them. A script's report is followed
+to be certified by the reference; without prices its lines are the same up to them. Where places have prices, these
+are part of the cost, and there is no plan over a direct network. A script's report is followed
 command by command. A job's answer has to be the reference's, and the end of the report of a script that brings
 it as far; what a run says was done is followed event by event. The last line counts the groups of texts that
 agree.
@@ -24,12 +25,12 @@ import make_texts
 import reference_run
 from reference_check import answer, misplanned
 from reference_play import misplayed
-from reference_text import MAX_TEXT_BYTES
+from reference_text import MAX_TEXT_BYTES, Fault, read
 
 CHECKED = {
     "best": 120, "changed": 200, "faulty": 320, "placed": 120, "changed_placed": 200, "faulty_placed": 320,
 }
-PLANNED = {"problem": 300, "faulty_problem": 200}
+PLANNED = {"problem": 300, "faulty_problem": 200, "placed_problem": 300, "faulty_placed_problem": 200}
 PLAYED = {"script": 1000, "faulty_script": 500, "vast_script": 20, "joined_script": 40}
 RUN = {"job": 2000, "faulty_job": 500}
 RECORDED = {"job": 300}
@@ -38,6 +39,7 @@ RECORDED = {"job": 300}
 MANY_SPLITS = [129, 200, 256, 257, 512, 1000, 1001, *range(1010, 1025)]
 # And more than a direct network is built for, in texts of version 3.
 MORE_SPLITS = [1025, 1500, 4000]
+MORE_PLACED = [10, 129, 1025, 4000]
 MORE_WORKERS = [257, 300, 1000, 4097, 32_768]
 # More than there are processors, since a job's threads nap where they have nothing to do.
 PROGRAMS_AT_ONCE = 4 * os.cpu_count()
@@ -57,6 +59,9 @@ def groups():
         yield kind, wrong_plan, made(kind, count)
     yield "many", wrong_many, [(f"a problem of {splits} splits", many(splits)) for splits in MANY_SPLITS]
     yield "more", wrong_more, [(f"a problem of {splits} splits", many(splits, 3)) for splits in MORE_SPLITS]
+    yield "more placed", wrong_more, [
+        (f"a problem of {splits} splits, with prices of places", many(splits, 3, 30_000)) for splits in MORE_PLACED
+    ]
     yield "wide", wrong_more, [(f"a problem of {workers} workers", wide(workers)) for workers in MORE_WORKERS]
     for kind, count in PLAYED.items():
         yield kind, wrong_play, made(kind, count)
@@ -90,8 +95,9 @@ def groups():
         ]
 
 
-def many(splits, version=2):
-    """A problem of so many splits for a few slots: the reference's search goes by the slots that are left."""
+def many(splits, version=2, dearest=None):
+    """A problem of so many splits for a few slots, in version 3 with prices of places up to the dearest, if it is given:
+    the reference's search goes by the slots that are left."""
     rnd, workers = random.Random(splits), [f"w{w}" for w in range(4)]
     lines = [f"problem {version}", "centre c0", "centre c1", "rack r0 c0", "rack r1 c0", "rack r2 c1"]
     lines += [f"worker {name} r{w % 3} {rnd.randint(1, 3)}" for w, name in enumerate(workers)]
@@ -101,6 +107,9 @@ def many(splits, version=2):
         lines.append(" ".join([f"split s{s} {rnd.randint(1, 9999)}", *holders]))
     lines += [f"busy s{s}" for s in range(splits) if rnd.random() < 0.1]
     lines += [f"barred s{s} {rnd.choice(workers)}" for s in range(splits) if rnd.random() < 0.1]
+    if dearest is not None:
+        prices = lambda: sorted(rnd.randint(0, dearest) for _ in range(3))
+        lines += [" ".join(["places", name, *map(str, prices())]) for name in workers]
     return make_texts.text_of([*lines, "end"])
 
 
@@ -191,7 +200,27 @@ def wrong_plan_over(program, words, text):
 
 def wrong_plan(program, text):
     # (racks is what is taken where no network is named)
-    return wrong_plan_over(program, ["plan"], text) or wrong_plan_over(program, ["plan", "--network", "direct"], text)
+    return wrong_plan_over(program, ["plan"], text) or wrong_plan_by_pairs(program, text)
+
+
+def wrong_plan_by_pairs(program, text):
+    if has_places(text):
+        return wrong_refusal(program, text)
+    return wrong_plan_over(program, ["plan", "--network", "direct"], text)
+
+
+def has_places(text):
+    """Whether a problem to plan from has no fault, and prices of places."""
+    try:
+        return bool(read(text, "plan").places)
+    except Fault:
+        return False
+
+
+def wrong_refusal(program, text):
+    """No direct network is built for the problem."""
+    direct = said_by(program, ["plan", "--network", "direct"], text)
+    return None if direct == (b"", 64) else f"over a direct network it says {direct}"
 
 
 def wrong_many(program, text):
@@ -200,10 +229,7 @@ def wrong_many(program, text):
 
 def wrong_more(program, text):
     """A direct network is not built for so many splits."""
-    direct = said_by(program, ["plan", "--network", "direct"], text)
-    if direct != (b"", 64):
-        return f"over a direct network it says {direct}"
-    return wrong_plan_over(program, ["plan"], text) or wrong_recheck(program, text)
+    return wrong_refusal(program, text) or wrong_plan_over(program, ["plan"], text) or wrong_recheck(program, text)
 
 
 def wrong_recheck(program, text):

@@ -1,7 +1,7 @@
 #!/usr/bin/env bash
 # Runs each example through the built programs, and compares output and status with the files beside it.
-# An example is run as `check`, or with the words of NAME.args where that file stands; a plan over each network too,
-# whose output is that of NAME.NETWORK.out where that file stands.
+# An example is run as `check`, or with the words of NAME.args where that file stands. A plan whose words name no network
+# is made over each too, and its output is that of NAME.NETWORK.out where that file stands.
 # usage: examples.sh PROGRAM..
 set -euo pipefail
 cd "$(dirname "$0")/.."
@@ -30,7 +30,7 @@ for program in "$@"; do
         words=(check)
         if [ -f "$name.args" ]; then mapfile -t words < "$name.args"; fi
         try "$program" "$name" "$name.out" "${words[@]}"
-        if [ "${words[0]}" = plan ]; then
+        if [ "${words[0]}" = plan ] && [[ " ${words[*]} " != *" --network "* ]]; then
             for network in direct racks; do
                 output=$name.$network.out
                 [ -f "$output" ] || output=$name.out

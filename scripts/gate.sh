@@ -86,7 +86,7 @@ start scripts/c_library.sh "${programs[0]}"
 start scripts/soak.py --short bin/mrjob
 start scripts/hdfs.py "${programs[@]}"
 start scripts/another_ledger.py
-start scripts/place_prices.py
+start scripts/place_prices.py "${programs[@]}"
 commands+=(scripts/edits.py) logs+=("$room/edits") started+=("$edits")
 count_all
 # (servers and workers are processes of their own, which want processors)

@@ -3,8 +3,9 @@
 and jobs.
 
     make_texts.py KIND SEED        writes one text; KIND is best, changed, faulty, placed, changed_placed,
-                                   faulty_placed, problem, faulty_problem, script, faulty_script, vast_script,
-                                   joined_script, job, wide_job, scattered_job, faulty_job, full or large
+                                   faulty_placed, problem, faulty_problem, placed_problem, faulty_placed_problem,
+                                   script, faulty_script, vast_script, joined_script, job, wide_job,
+                                   scattered_job, faulty_job, full or large
 """
 import random
 import re
@@ -254,13 +255,17 @@ def faulty_placed(rnd):
     """A text with prices of places, most with one such line more, in which any line may be spoiled."""
     scenario = Placed(rnd)
     scenario.plan()
-    lines = scenario.lines(rnd)
+    return spoiled_places(rnd, scenario.lines(rnd))
+
+
+def spoiled_places(rnd, lines):
+    """The text of lines with prices of places, most with one such line more, in which any line may be spoiled."""
     more = ["w0 1 2", "w0 2 1", "w0 1 1 0 2", "w0 1 3 2", "w1 0 0 0", "w0", "", "s0 1", "r0 1", "x 1", "w9 1"]
     more += ["w0 68719476736", "w0 68719476737", f"w0 {'9' * 20}", f"w0 1 {'9' * 5000}"]
     more += [f"w0 {' '.join(['7'] * count)}" for count in (254, 255, 256, 257)]
     more += ["w0 0 01", "w0 1 x", "w0 1 ", "w0 1 w1"]
     if rnd.random() < 0.8:
-        place = rnd.choice([rnd.randint(1, len(lines)), lines.index("plan")])
+        place = rnd.choice([rnd.randint(1, len(lines)), lines.index("plan" if "plan" in lines else "end")])
         lines.insert(place, f"places {rnd.choice(more)}")
     if rnd.random() < 0.1:
         lines[0] = rnd.choice(["problem 2", "script 3", "job 3"])
@@ -306,15 +311,25 @@ def faulty(rnd):
     return spoiled(rnd, scenario.lines(rnd))
 
 
-def head(rnd):
+def head(rnd, kind=Scenario):
     """The lines of a problem to plan from."""
-    lines = Scenario(rnd).lines(rnd)
+    lines = kind(rnd).lines(rnd)
     return [*lines[: lines.index("plan")], "end"]
 
 
 def problem(rnd):
     """A problem to plan from."""
     return text_of(head(rnd))
+
+
+def placed_problem(rnd):
+    """A problem to plan from, with prices of places."""
+    return text_of(head(rnd, Placed))
+
+
+def faulty_placed_problem(rnd):
+    """Such a problem, most with a line of prices more, in which any line may be spoiled."""
+    return spoiled_places(rnd, head(rnd, Placed))
 
 
 def faulty_problem(rnd):
@@ -603,6 +618,8 @@ KINDS = {
     "changed_placed": changed_placed,
     "faulty_placed": faulty_placed,
     "problem": problem,
+    "placed_problem": placed_problem,
+    "faulty_placed_problem": faulty_placed_problem,
     "script": script,
     "faulty_script": faulty_script,
     "vast_script": vast_script,

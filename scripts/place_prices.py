@@ -1,7 +1,7 @@
 #!/usr/bin/env python3
-"""Tries prices of places on all assignments of small problems, and contrib/plan_places.py.
+"""Tries prices of places on all assignments of small problems, contrib/plan_places.py, and the plans of programs.
 
-    place_prices.py [PROBLEMS]
+    place_prices.py [--problems N] PROGRAM..
 
 makes small problems of version 3 in which places have prices, and goes through all admissible assignments of
 each. Which assignments are best is found by counting starts and adding up byte-distances and prices of
@@ -9,11 +9,15 @@ places, and by nothing else. For each assignment prices that meet C4 to C8 are s
 each of these conditions bounds a difference of two unknowns. There have to be such prices for the best
 assignments alone. With them contrib/certify.py and reference_check.py have to certify the plan, and to tell
 its figures. Where a price is changed by one, or the plan is another one, both have to say the same, and may
-certify a best plan alone. The plans of plan_places.py have to be certified as best, those of problems of
-hundreds of splits too. The problems are the same in each run. The last line is 'N passed, M failed'.
+certify a best plan alone. The plans of plan_places.py and of the programs have to be certified as best, and the
+figures of a program's first line have to be those of its plan. Of problems of hundreds of splits the programs'
+plans have to be certified, and to be charged what those of plan_places.py are. The problems are the same in each
+run. The last line is 'N passed, M failed'.
 """
+import argparse
 import itertools
 import random
+import subprocess
 import sys
 
 sys.dont_write_bytecode = True
@@ -166,35 +170,56 @@ def wrong_prices(rnd, problem, plan):
     return None
 
 
-def wrong(rnd, problem):
+def plan_by(program, text):
+    """The text with a program's plan and prices, and the figures of the plan's first line."""
+    ran = subprocess.run([program, "plan", "--prices"], input=text, capture_output=True)
+    first, _, lines = ran.stdout.decode().partition("\n")
+    return f"{text.decode()[: -len('end') - 1]}plan\n{lines}end\n", first.split(" ")[1:]
+
+
+def wrong_plan(programs, text, best):
+    """Whose plan of a problem is not certified as best, or tells other figures, or None."""
+    plans = [("plan_places.py", planned(text), None), *((program, *plan_by(program, text)) for program in programs)]
+    for name, whole, told in plans:
+        said = answer(whole.encode()) or "nothing"
+        word, *figures = said.split(" ")
+        if word != "certified" or told not in (None, figures):
+            return f"the plan of {name} tells {told} and is answered {said}"
+        order = -int(figures[0]), sum(map(int, figures[1:]))
+        best = best or order  # (of a larger problem: that of plan_places.py)
+        if order != best:
+            return f"the plan of {name} is answered {said}"
+    return None
+
+
+def wrong(rnd, programs, problem):
     """What is wrong with a small problem, or None."""
     for plan in problem.plans:
         found = wrong_prices(rnd, problem, plan)
         if found:
             return f"{plan}: {found}"
-    said = answer(planned(make_texts.text_of([*problem.head, "end"])).encode()) or "nothing"
-    word, *figures = said.split()
-    if word != "certified" or (-int(figures[0]), sum(map(int, figures[1:]))) != problem.best:
-        return f"the plan of plan_places.py is answered {said}"
-    return None
+    return wrong_plan(programs, make_texts.text_of([*problem.head, "end"]), problem.best)
 
 
 def main():
-    count, passed, failed, plans = int(sys.argv[1]) if len(sys.argv) > 1 else PROBLEMS, 0, 0, 0
-    for seed in range(1, count + 1):
+    parser = argparse.ArgumentParser(description=__doc__, formatter_class=argparse.RawDescriptionHelpFormatter)
+    parser.add_argument("--problems", type=int, default=PROBLEMS)
+    parser.add_argument("programs", nargs="*", metavar="PROGRAM")
+    asked = parser.parse_args()
+    passed = failed = plans = 0
+    for seed in range(1, asked.problems + 1):
         rnd = random.Random(seed)
         problem = Small(small(rnd))
-        found, plans = wrong(rnd, problem), plans + len(problem.plans)
+        found, plans = wrong(rnd, asked.programs, problem), plans + len(problem.plans)
         if found:
             print(f"problem {seed} failed: {problem.head}: {found}")
         passed, failed = passed + (not found), failed + bool(found)
-    print(f"{passed} of {count} problems with {plans} assignments agree")
+    print(f"{passed} of {asked.problems} problems with {plans} assignments agree")
     for splits, workers in LARGER:
-        head = make_texts.text_of([*larger(random.Random(splits + workers), splits, workers), "end"])
-        said = answer(planned(head).encode()) or "nothing"
-        is_certified = said.startswith("certified ")
-        print(f"{splits} splits on {workers} workers{'' if is_certified else ' failed'}: {said}", flush=True)
-        passed, failed = passed + is_certified, failed + (not is_certified)
+        text = make_texts.text_of([*larger(random.Random(splits + workers), splits, workers), "end"])
+        found = wrong_plan(asked.programs, text, None)
+        print(f"{splits} splits on {workers} workers{f' failed: {found}' if found else ' agree'}", flush=True)
+        passed, failed = passed + (not found), failed + bool(found)
     print(f"{passed} passed, {failed} failed")
     return 1 if failed or not passed else 0
 

@@ -16,6 +16,8 @@ from reference_text import Fault, read
 class Wave:
     """The problem with its plan and prices, by numbers."""
 
+    places = None  # of each worker the prices of its places, where any have prices
+
     def __init__(self, given):
         self.splits = list(given.numbers["split"])
         self.workers = list(given.numbers["worker"])
@@ -97,6 +99,16 @@ def first_failure(wave):
     return None
 
 
+def figures(wave):
+    """How many splits the plan starts, their byte-distance, and what the places cost that they take, where places have
+    prices."""
+    started = [(s, w) for s, w in enumerate(wave.starts) if w is not None]
+    numbers = [len(started), sum(wave.cost(*pair) for pair in started)]
+    if wave.places:
+        numbers.append(sum(wave.place_price(w, k) for w in range(len(wave.workers)) for k in range(wave.load(w))))
+    return numbers
+
+
 def answer(text):
     """The bytes that `mrjob check` writes for a text, and its status."""
     try:
@@ -107,15 +119,12 @@ def answer(text):
     if failure:
         number, *names = failure
         return f"refused C{number} {b' '.join(names).decode()}\n".encode(), 1
-    started = [(s, w) for s, w in enumerate(wave.starts) if w is not None]
-    numbers = [len(started), sum(wave.cost(*pair) for pair in started)]
-    if wave.places:
-        numbers.append(sum(wave.place_price(w, k) for w in range(len(wave.workers)) for k in range(wave.load(w))))
-    return f"certified {' '.join(map(str, numbers))}\n".encode(), 0
+    return f"certified {' '.join(map(str, figures(wave)))}\n".encode(), 0
 
 
 def most_and_least(wave):
-    """The most splits that can start together, and the least cost of as many."""
+    """The most splits that can start together, and the least that as many are charged: their byte-distance and the
+    prices of their places."""
     idle = sum(map(bool, wave.free))
     # (so many ways there are at most to fill the slots, and to give so many splits to workers or to none)
     states = min(math.prod(free + 1 for free in wave.free), math.comb(len(wave.splits) + idle, idle))
@@ -124,7 +133,8 @@ def most_and_least(wave):
 
 def by_chains(wave):
     """The same by one start more at a time, at the end of the cheapest chain: a split that does not start takes the
-    place of another one, which takes the place of the next, up to a free slot. As many starts then cost the least."""
+    place of another one, which takes the place of the next, up to a free slot, whose place has its price. As many starts
+    then cost the least, as prices of places do not fall."""
     costs = [{it: wave.cost(split, it) for it in range(len(wave.free)) if wave.is_admissible(split, it)}
              for split in range(len(wave.splits))]
     at = {}
@@ -148,9 +158,11 @@ def by_chains(wave):
                     before, starts = chains[old]
                     grew |= found(worker, before + cost - costs[split][old], {**starts, split: worker})
         loads = [*at.values()]
-        ends = [chain for it, chain in chains.items() if loads.count(it) < wave.free[it]]
+        ends = [(cost + wave.place_price(it, loads.count(it)), starts)
+                for it, (cost, starts) in chains.items() if loads.count(it) < wave.free[it]]
         if not ends:
-            return len(at), sum(costs[split][worker] for split, worker in at.items())
+            places = [wave.place_price(it, k) for it in {*loads} for k in range(loads.count(it))]
+            return len(at), sum(costs[split][worker] for split, worker in at.items()) + sum(places)
         at.update(min(ends, key=lambda it: it[0])[1])
 
 
@@ -167,7 +179,8 @@ def by_all_ways(wave):
             for at, more in pairs:
                 if free[at]:
                     left = free[:at] + (free[at] - 1,) + free[at + 1 :]
-                    choices.append((left, (count + 1, cost + more)))
+                    place = wave.place_price(idle[at], wave.free[idle[at]] - free[at])
+                    choices.append((left, (count + 1, cost + more + place)))
             for left, (starts, spent) in choices:
                 known = following.get(left)
                 if known is None or (-starts, spent) < (-known[0], known[1]):
@@ -184,10 +197,13 @@ def misplanned(text, written, status):
         return None if (written, status) == (f"{fault}\n".encode(), 2) else f"the text has {fault}"
     given.prices = dict.fromkeys([*given.numbers["split"], *given.numbers["worker"]], 0)
     wave = Wave(given)
-    count, cost = most_and_least(wave)
+    count, charge = most_and_least(wave)
     first, _, lines = written.partition(b"\n")
-    if (first, status) != (f"wave {count} {cost}".encode(), 0):
-        return f"{count} splits start at {cost}"
+    word, *told = first.split(b" ")
+    if (word, status) != (b"wave", 0) or not all(it.isdigit() for it in told) or len(told) != (3 if wave.places else 2):
+        return "that is not how a plan begins"
+    if [int(told[0]), sum(map(int, told[1:]))] != [count, charge]:
+        return f"{count} splits start at {charge}"
     said = [line.split(b" ") for line in lines.splitlines()]
     started = [words[1] for words in said if words[0] == b"start"]
     if started != [name for name in wave.splits if name in started]:
@@ -196,7 +212,7 @@ def misplanned(text, written, status):
     if priced != wave.splits + wave.workers:
         return "the prices are not those of all splits, then of all workers"
     whole = text[: -len(b"end\n")] + b"plan\n" + lines + b"end\n"
-    if answer(whole) != (f"certified {count} {cost}\n".encode(), 0):
+    if answer(whole) != (b" ".join([b"certified", *told]) + b"\n", 0):
         return f"a check of plan and prices answers {answer(whole)}"
     return None
 

@@ -67,7 +67,7 @@ SHAPES = {
 ANY_HEAD = (b"centre", b"rack", b"worker", b"split")
 HEAD = {
     "check": (*ANY_HEAD, b"barred", b"dead", b"busy", b"places", b"plan"),
-    "plan": (*ANY_HEAD, b"barred", b"dead", b"busy", b"end"),
+    "plan": (*ANY_HEAD, b"barred", b"dead", b"busy", b"places", b"end"),
     "play": (*ANY_HEAD, b"parts", b"target", b"silence", b"doc", b"begin"),
     "run": (*ANY_HEAD, b"parts", b"target", b"silence", b"doc", b"end"),
 }

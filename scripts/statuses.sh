@@ -67,6 +67,8 @@ for program in "$@"; do
         "condition C6: the two prices and the cost of each started pair come to K"
     expect "an unknown option" "$(given plan --price < "$text")" 64 nothing words
     expect "an unknown network" "$(given plan --network ring < "$text")" 64 nothing words
+    expect "a direct network for prices of places" "$(given plan --network direct < examples/plan_places.txt)" 64 nothing \
+        "mrjob: no direct network for so many splits or workers, or for prices of places"
     expect "a network for a check" "$(given check --network racks < "$text")" 64 nothing words
     expect "a plan in a text to plan from" "$(given plan < "$text")" 2 "line 7: fault 7" nothing
     expect "a problem in place of a script" "$(given play < "$text")" 2 "line 1: fault 7" nothing
