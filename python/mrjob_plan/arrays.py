@@ -349,7 +349,7 @@ def check(
     call, none = (load().mrjob_check_wide, WIDE_NONE) if wave.is_wide else (load().mrjob_check, NONE)
     raise_for(call(byref(wave.rows()), *arrays, byref(row)), wave, given)
     place = [None if it == none else it for it in (row.split, row.worker)]
-    return Verdict(row.count, row.cost, row.condition or None, *place)
+    return Verdict(row.count, row.cost, row.condition or None, place[0], place[1])
 
 
 def check_places(wave: Wave, places: Places, given: Mapping[str, Elements], arrays: Sequence[int]) -> Verdict:

@@ -139,8 +139,7 @@ def load() -> ctypes.CDLL:
     for check, verdict in ((library.mrjob_check, VerdictRow), (library.mrjob_check_wide, WideVerdictRow)):
         check.restype = c_uint32
         check.argtypes = [POINTER(WaveRows), *array, *array, *array, POINTER(verdict)]
-    of_places = [POINTER(WaveRows), POINTER(PlaceRows), *array, *array, *array]
-    library.mrjob_plan_places.restype = library.mrjob_check_places.restype = c_uint32
-    library.mrjob_plan_places.argtypes = [*of_places, POINTER(PlacesTotal)]
-    library.mrjob_check_places.argtypes = [*of_places, POINTER(PlacesVerdictRow)]
+    for call, row in ((library.mrjob_plan_places, PlacesTotal), (library.mrjob_check_places, PlacesVerdictRow)):
+        call.restype = c_uint32
+        call.argtypes = [POINTER(WaveRows), POINTER(PlaceRows), *array, *array, *array, POINTER(row)]
     return library
