@@ -3,9 +3,9 @@
 
 The problem is read from standard input. The network is the direct one of docs/MODEL.md: an arc from each pending split
 to each worker on which it may start, at what that costs, one to where splits wait, at the reward K, and from there and
-from each worker to the sink; where places have prices, one for the places of each price. Each pending split sends one unit. A
-least flow is a best plan: where it costs F, F // K splits wait, and the others start at a byte-distance, with the prices
-of their places, of F % K. Comments tell K and name each node.
+from each worker to the sink; where places have prices, one for the places of each price. Each pending split sends one
+unit. A least flow is a best plan: where it costs F, F // K splits wait, and the others start at a byte-distance, with
+the prices of their places, of F % K. Comments tell K and name each node.
 
     contrib/dimacs_of_problem.py < examples/plan_swap.txt
 

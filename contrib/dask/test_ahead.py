@@ -99,7 +99,8 @@ def anew(planner: Planner, count: Count) -> None:
             del waits[split]
         seen.append(queues.plans)
     # (all but the last turn start as many as a quarter of the slots)
-    count.holds("all is planned anew as calls start, and where a worker is gone or new", seen == [1, 2, 3, 4, 5, 5], seen)
+    wanted = [1, 2, 3, 4, 5, 5]
+    count.holds("all is planned anew as calls start, and where a worker is gone or new", seen == wanted, seen)
     queues, waits, seen = Queues(planner, Pace()), wave([8], 20).splits, []
     for free, busy in ((8, 0), (1, 7), (1, 7), (1, 7), (0, 8), (1, 7)):
         for split in queues.starts(wave([free], 0)._replace(splits=dict(waits)), {"w0": [0.5] * busy}):
