@@ -13,7 +13,7 @@ use Rattle.plan_text.specs.Value.{MakesWave, declared_places, declared_starts, p
 use Rattle.plan_text.specs.declared.built.PlanText.{PlanText}
 use Rattle.plan_text.specs.declared.built.ProblemText.{ProblemText}
 
--- the problem, its prices of places and its names are those that the rows make
+-- the rows make this problem, with these prices of places and these names
 pub record MakesProblem (rows : List Statement) (v : ProblemText) : Type 0 where
   pub wave : MakesWave rows v.problem
   pub places : v.places ≡ declared_places rows

@@ -173,7 +173,7 @@ free_certified wave places (Ok p) free certifies count cost taken =
       places = taken ∙ sym (charge-plain wave (pairs_of p.plan.starts));
     })
 
--- the lines of its figures and its starts, and then those of its prices if they are asked for
+-- the lines of a plan's figures and starts, and then the lines of its prices, if prices are asked for
 pub plans_problem : (network : NetworkKind) (with_prices : Bool) (v : ProblemText) (starts : List (Option ℕ))
     (prices : PriceList) (plan_workers : ℕ) (figures : Figures) (lines : List ℕ)
     → length v.splits ≡ length v.problem.splits → length v.workers ≡ length v.problem.workers

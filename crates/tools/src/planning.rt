@@ -28,7 +28,8 @@ use wave_planner::{PlanError, Planned, plan_places, plan_with};
 /// prices if they ask for them, or the text's least fault. All lines are made before their first byte is
 /// written. The starts and prices, put with a line `plan` in front of the problem's line `end`, are a text
 /// that `check` certifies, where it is no longer than a text may be. Where a direct network is asked for, and
-/// the problem has more splits or workers than that is built for or its places have prices, nothing is written.
+/// the problem has more splits or workers than such a network takes, or its places have prices, nothing is
+/// written.
 pub fn plan<R: Read, W: Write>(
     alloc: Global,
     reader: &mut R,

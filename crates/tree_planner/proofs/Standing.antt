@@ -73,7 +73,7 @@ module _ (wave : Wave) (old : Tables) (s : IsStanding wave old) where
       let worth = s.worth in
       omega arith)) h.kept
 
--- its terms are those of the wave with free places
+-- a state of the kept engine has the terms of the wave whose places are free
 pub plain_terms : (wave : Wave) (t : Tables) → IsStanding wave t → AreTermsOf wave [] (state_of t).terms
 plain_terms wave t s = record { worth = (let worth = s.worth in omega arith); price = s.plain }
 

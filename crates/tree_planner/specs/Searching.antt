@@ -174,15 +174,15 @@ LeadsTo g search x distance (Over t level) = GoesOver g search x distance t leve
 abbrev pub next_price : Ground → ℕ → ℕ
 next_price g w = (state_at g).terms.price w (taken (wave_of g) (state_at g) w)
 
--- a slot is free under the node, and the next place of each worker under it that has one costs no more than this
--- above the node's depth
+-- a slot is free under the node; and the next place of each worker with a free slot there costs no more than
+-- the node's depth and this rest
 pub record IsOpenAt (g : Ground) (v : TreeNode) (rest : ℕ) : Type 0 where
   pub some : 0 < sum_under (wave_of g) v (state_at g).free
   pub near : (w : ℕ) → w < length (wave_of g).workers → is_under (wave_of g).tree (Worker w) v ≡ true
       → 0 < (state_at g).free w → next_price g w ≤ (state_at g).depth v + rest
 
--- how far a free slot is from the node: if this is not farther than any way goes, one is as near, and none of the
--- node's own, where it is a worker, is nearer
+-- how far a free slot is from the node: if this rest is no farther than a way may go, a free slot is as near;
+-- and where the node is a worker, no free slot of its own is nearer
 pub record IsRest (g : Ground) (v : TreeNode) (rest : ℕ) : Type 0 where
   pub found : rest < 2 ^ 60 → IsOpenAt g v rest
   pub own : (w : ℕ) → w < length (wave_of g).workers → v ≡ Worker w → 0 < (state_at g).free w

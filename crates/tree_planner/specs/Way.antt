@@ -98,8 +98,8 @@ pub record IsReady (wave : Wave) (state : State) (search : Search) : Type 0 wher
   pub steps : (v : TreeNode) → IsOnWay search v → IsTight wave state search v (step_at search v)
   pub goal : IsTightGoal wave state search search.goal
 
--- Units were moved as far back as a node, where a hole is. To what was looked from before that no fewer units come
--- than did, and the splits stand there as they did.
+-- Units were moved as far back as a node, where a hole is. To the nodes from which the search looked before
+-- this node no fewer units come than did, and the splits on those nodes stand as they did.
 pub record IsFollowing (wave : Wave) (now : State) (search : Search) (node : TreeNode) : Type 0 where
   pub first : State
   pub ready : IsReady wave first search

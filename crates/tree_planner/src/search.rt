@@ -283,8 +283,8 @@ fn slots_at(ground: &Ground<'_>, node: TreeNode) -> u64
     ground.slots.get(node)
 }
 
-/// How far a free slot is from a node. Where places are free, that of any worker under the node is as near; else
-/// only a worker's own are told of, as a search comes to the workers by itself.
+/// How far a free slot is from a node. Where places are free, a slot of any worker under the node is as near.
+/// Else only a worker's own slots count, as a search comes to the workers by itself.
 pub fn rest_of(ground: &Ground<'_>, node: TreeNode) -> u64
     requires ground { IsGround ground.now }
     requires known { IsNode (wave_of ground.now).tree node }
