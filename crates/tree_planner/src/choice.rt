@@ -47,6 +47,7 @@ pub fn choose(ground: &Ground<'_>, split: u32) -> Choice
     }
 }
 
+// (no end costs less than nothing)
 fn cheapest_end(ground: &Ground<'_>, split: u32) -> Cheapest
     requires ground { IsGround ground.now }
     requires split { split < length (wave_of ground.now).splits }
@@ -61,6 +62,9 @@ fn cheapest_end(ground: &Ground<'_>, split: u32) -> Cheapest
     let ends = ends_of(ground, split);
     for group in ends.groups() {
         best = best_of(ground, split, best, &ends, *group);
+        if best.least == 0 && best.end.is_some() {
+            return best;
+        }
     }
     best
 }
