@@ -17,6 +17,8 @@ pub mod Covered
 pub mod Tops
 pub mod Handed
 pub mod Starts
+pub mod Stood
+pub mod Certifying
 pub mod Standing
 pub mod Stored
 pub mod ImprovedBack

@@ -1,12 +1,15 @@
 -- The pairs of a plan's starts, and the prices of their splits.
 use Rattle.std.proofs.Common.{◌≡◌, ℕ, zero, suc, ◌+◌, ◌-◌, ◌<◌, ◌⊎◌, All, List, [], ◌∷◌, ◌++◌, length, Option, Some, None}
 use Rattle.std.proofs.Common.{refl, sym, ap, ◌∙◌, subst, get_or, get_or-set_same, get_or-set_other, inl, inr, arith}
-use Rattle.std.specs.Prelude.{slice_index, slice_set, unwrap_or, IfSome}
+use Rattle.std.proofs.Common.{length-append}
+use Rattle.std.specs.Prelude.{replicate, slice_index, slice_set, unwrap_or, IfSome}
 use Rattle.std.proofs.lemmas.Bool.{cases_eq, cases_lt}
-use Rattle.std.proofs.lemmas.List.{append-nil, get_or_past, length-set}
+use Rattle.std.proofs.Math.Seq.{set-append_seam}
+use Rattle.std.proofs.lemmas.List.{append_assoc, append-nil, get_or_past, length-set}
 use Rattle.wave_problem.specs.Assignment.{pairs_from, pairs_of, start_of}
 use Rattle.wave_problem.specs.Wave.{cost, Wave}
 use Rattle.wave_problem.proofs.Pairs.{pairs_started}
+use Rattle.tree_planner.specs.Handing.{ArePlanned}
 use Rattle.tree_planner.specs.Priced.{IsSplitPrice}
 
 -- the pair of a split with its start, if it has one
@@ -61,6 +64,20 @@ has_pair starts s w e =
     let is : 0 + s ≡ s = omega arith in
     (h.0, h.1, h.2 ∙ ap (λ (z : ℕ). let r : ℕ × ℕ = (z, w) in r) is)
 
+-- a start has its pair, and a pair is a start
+module _ (pairs : List (ℕ × ℕ)) (starts : List (Option ℕ)) (of : pairs_of starts ≡ pairs) where
+  pub pair_of_start : (s w : ℕ) → start_of starts s ≡ Some w
+      → (j : ℕ) × (j < length pairs) × (get_or pairs j no_pair ≡ (s, w))
+  pair_of_start s w is =
+      subst (λ (ps : List (ℕ × ℕ)). (j : ℕ) × (j < length ps) × (get_or ps j no_pair ≡ (s, w))) of
+      (has_pair starts s w is)
+
+  pub start_of_pair : (k : ℕ) → k < length pairs
+      → start_of starts (get_or pairs k no_pair).0 ≡ Some (get_or pairs k no_pair).1
+  start_of_pair k l =
+      subst (λ (ps : List (ℕ × ℕ)). All (λ pair. start_of starts pair.0 ≡ Some pair.1) ps) of
+      (pairs_started starts) k no_pair l
+
 -- the price of a split that starts on this worker
 abbrev pub price_on : Wave → ℕ → List ℕ → ℕ → ℕ → ℕ
 price_on wave worth workers s w = worth - (slice_index workers w + unwrap_or (cost wave s w) 0)
@@ -73,25 +90,26 @@ pub record ArePriced (wave : Wave) (worth : ℕ) (workers : List ℕ) (pairs : L
       ≡ price_on wave worth workers (get_or pairs j no_pair).0 (get_or pairs j no_pair).1
   pub left : (s : ℕ) → (slice_index prices s ≡ 0) ⊎ ((j : ℕ) × (j < k) × ((get_or pairs j no_pair).0 ≡ s))
 
-module _ (wave : Wave) (worth : ℕ) (workers : List ℕ) (starts : List (Option ℕ)) where
-  starts_there : (j : ℕ) → j < length (pairs_of starts)
-      → start_of starts (get_or (pairs_of starts) j no_pair).0 ≡ Some (get_or (pairs_of starts) j no_pair).1
-  starts_there j l = pairs_started starts j no_pair l
+module _ (wave : Wave) (worth : ℕ) (workers : List ℕ) (pairs : List (ℕ × ℕ)) (starts : List (Option ℕ))
+    (of : pairs_of starts ≡ pairs) where
+  starts_there : (j : ℕ) → j < length pairs
+      → start_of starts (get_or pairs j no_pair).0 ≡ Some (get_or pairs j no_pair).1
+  starts_there j l = start_of_pair pairs starts of j l
 
   -- one pair more
-  module _ (k : ℕ) (prices : List ℕ) (within : k < length (pairs_of starts))
-      (known : (get_or (pairs_of starts) k no_pair).0 < length wave.splits)
-      (p : ArePriced wave worth workers (pairs_of starts) k prices) where
+  module _ (k : ℕ) (prices : List ℕ) (within : k < length pairs)
+      (known : (get_or pairs k no_pair).0 < length wave.splits)
+      (p : ArePriced wave worth workers pairs k prices) where
     abbrev s_at : ℕ → ℕ
-    s_at j = (get_or (pairs_of starts) j no_pair).0
+    s_at j = (get_or pairs j no_pair).0
 
     abbrev w_at : ℕ → ℕ
-    w_at j = (get_or (pairs_of starts) j no_pair).1
+    w_at j = (get_or pairs j no_pair).1
 
     abbrev price : ℕ
     price = price_on wave worth workers (s_at k) (w_at k)
 
-    same_worker : (j : ℕ) → j < length (pairs_of starts) → s_at j ≡ s_at k → w_at j ≡ w_at k
+    same_worker : (j : ℕ) → j < length pairs → s_at j ≡ s_at k → w_at j ≡ w_at k
     same_worker j l e =
         let one = starts_there j l in
         let two = starts_there k within in
@@ -112,7 +130,7 @@ module _ (wave : Wave) (worth : ℕ) (workers : List ℕ) (starts : List (Option
           ])
     ]
 
-    pub priced_next : ArePriced wave worth workers (pairs_of starts) (k + 1) (slice_set prices (s_at k) price)
+    pub priced_next : ArePriced wave worth workers pairs (k + 1) (slice_set prices (s_at k) price)
     priced_next = record {
       size = length-set prices (s_at k) price ∙ p.size;
       done = done_next;
@@ -125,15 +143,15 @@ module _ (wave : Wave) (worth : ℕ) (workers : List ℕ) (starts : List (Option
       ];
     }
 
-  pub all_priced : (prices : List ℕ) → ArePriced wave worth workers (pairs_of starts) (length (pairs_of starts)) prices
-      → (s : ℕ) → IsSplitPrice wave worth starts workers s (slice_index prices s)
+  pub all_priced : (prices : List ℕ) → ArePriced wave worth workers pairs (length pairs) prices → (s : ℕ)
+      → IsSplitPrice wave worth starts workers s (slice_index prices s)
   all_priced prices p s = record {
     started = λ w is.
-        (let h = has_pair starts s w is in
-        let one : (get_or (pairs_of starts) h.0 no_pair).0 ≡ s = ap (λ (x : ℕ × ℕ). x.0) h.2 in
-        let two : (get_or (pairs_of starts) h.0 no_pair).1 ≡ w = ap (λ (x : ℕ × ℕ). x.1) h.2 in
+        (let h = pair_of_start pairs starts of s w is in
+        let one : (get_or pairs h.0 no_pair).0 ≡ s = ap (λ (x : ℕ × ℕ). x.0) h.2 in
+        let two : (get_or pairs h.0 no_pair).1 ≡ w = ap (λ (x : ℕ × ℕ). x.1) h.2 in
         ap (slice_index prices) (sym one) ∙ p.done h.0 h.1 ∙ ap (λ s. price_on wave worth workers s
-        (get_or (pairs_of starts) h.0 no_pair).1) one ∙ ap (price_on wave worth workers s) two);
+        (get_or pairs h.0 no_pair).1) one ∙ ap (price_on wave worth workers s) two);
     unstarted = λ is. elim (p.left s) [
       | inl none ↦ none
       | inr h ↦ absurd
@@ -143,21 +161,48 @@ module _ (wave : Wave) (worth : ℕ) (workers : List ℕ) (starts : List (Option
     ];
   }
 
--- a pair is of a split and a worker that there are
-module _ (starts : List (Option ℕ)) (k : ℕ) (within : k < length (pairs_of starts)) where
-  abbrev at_pair : ℕ × ℕ
-  at_pair = get_or (pairs_of starts) k no_pair
+-- the pairs of a plan are of splits and workers that there are
+pub pairs_known : (wave : Wave) (pairs : List (ℕ × ℕ)) → ArePlanned wave pairs
+    → All (λ (pair : ℕ × ℕ). (pair.0 < length wave.splits) × (pair.1 < length wave.workers)) pairs
+pairs_known wave pairs p =
+    subst (All (λ (pair : ℕ × ℕ). (pair.0 < length wave.splits) × (pair.1 < length wave.workers))) p.made (λ k d l.
+    (let pair = get_or (pairs_of p.starts) k d in
+    let start = pairs_started p.starts k d l in
+    let split : pair.0 < length p.starts = elim (cases_lt pair.0 (length p.starts)) [
+      | inl l ↦ l
+      | inr past ↦ absurd (let none = get_or_past p.starts pair.0 None past in cc)
+    ] in
+    let size = p.size in (
+      omega arith,
+      subst (λ (o : Option ℕ). IfSome o (λ w. w < length wave.workers)) start (p.known pair.0 None split),
+    )))
 
-  pub pair_split : at_pair.0 < length starts
-  pair_split = elim (cases_lt at_pair.0 (length starts)) [
-    | inl l ↦ l
-    | inr past ↦ absurd
-        (let none = get_or_past starts at_pair.0 None past in
-        let start = pairs_started starts k no_pair within in
-        cc)
-  ]
+-- the starts after the pairs have been put, one after another
+abbrev pub filled : List (Option ℕ) → List (ℕ × ℕ) → List (Option ℕ)
+filled starts [] = starts
+filled starts (pair ∷ pairs) = filled (slice_set starts pair.0 (Some pair.1)) pairs
 
-  pub pair_worker : (n : ℕ) → All (λ start. IfSome start (λ w. w < n)) starts → at_pair.1 < n
-  pair_worker n known =
-      subst (λ (o : Option ℕ). IfSome o (λ w. w < n)) (pairs_started starts k no_pair within)
-      (known at_pair.0 None pair_split)
+filled_from : (n m : ℕ) (front rest : List (Option ℕ)) → n ≡ length front → m ≡ length rest
+    → filled (front ++ replicate m None) (pairs_from n rest) ≡ front ++ rest
+filled_from n zero front [] a b = refl
+filled_from n (suc m) front [] a b = absurd (omega arith)
+filled_from n zero front (o ∷ rest) a b = absurd (omega arith)
+filled_from n (suc m) front (None ∷ rest) a b =
+    let more = length-append front (None ∷ []) in
+    ap (λ (xs : List (Option ℕ)). filled xs (pairs_from (n + 1) rest))
+    (sym (append_assoc front (None ∷ []) (replicate m None)))
+    ∙ filled_from (n + 1) m (front ++ None ∷ []) rest (omega arith) (omega arith)
+    ∙ append_assoc front (None ∷ []) rest
+filled_from n (suc m) front (Some w ∷ rest) a b =
+    let more = length-append front (Some w ∷ []) in
+    ap (λ (xs : List (Option ℕ)). filled xs (pairs_from (n + 1) rest))
+    (ap (λ (i : ℕ). slice_set (front ++ None ∷ replicate m None) i (Some w)) a
+    ∙ set-append_seam front None (replicate m None) (Some w)
+    ∙ sym (append_assoc front (Some w ∷ []) (replicate m None)))
+    ∙ filled_from (n + 1) m (front ++ Some w ∷ []) rest (omega arith) (omega arith)
+    ∙ append_assoc front (Some w ∷ []) rest
+
+-- the pairs of a plan, put where nothing starts, are the plan
+pub filled_of : (n : ℕ) (starts : List (Option ℕ)) → length starts ≡ n
+    → filled (replicate n None) (pairs_of starts) ≡ starts
+filled_of n starts e = filled_from 0 n [] starts refl (sym e)

@@ -1,9 +1,10 @@
 -- Starts of one split more.
+use Rattle.std.proofs.Common.{zero, suc, ◌-◌}
 use Rattle.std.proofs.Common.{◌≡◌, ℕ, ◌+◌, ◌<◌, ◌≤◌, cond, List, [], ◌∷◌, ◌++◌, length, Option, Some, None}
 use Rattle.std.proofs.Common.{refl, sym, ap, ◌∙◌, subst, inl, inr, arith, length-append, get_or-set_same, get_or-set_other}
-use Rattle.std.specs.Prelude.{◌==◌}
+use Rattle.std.specs.Prelude.{◌==◌, ◌≢◌, slice_index, slice_index_or, IfSome}
 use Rattle.std.proofs.lemmas.Bool.{cases_eq, cases_lt}
-use Rattle.std.proofs.lemmas.List.{get_or_append_left, get_or_past, get_or_push}
+use Rattle.std.proofs.lemmas.List.{get_or_append_left, get_or_default, get_or_past, get_or_push}
 use Rattle.std.proofs.lemmas.List.Sums.{sum_by-cons}
 use Rattle.wave_problem.specs.Wave.{Wave}
 use Rattle.wave_problem.specs.Assignment.{load, pairs_from, pairs_of, start_of}
@@ -12,13 +13,14 @@ use Rattle.tree_flow.specs.declared.nodes.End.{End}
 use Rattle.tree_flow.specs.declared.nodes.Place.{Place}
 use Rattle.tree_flow.specs.declared.nodes.Place.TheVariants.{Stands, Unshipped, Waits}
 use Rattle.tree_flow.specs.declared.nodes.TreeNode.{TreeNode}
-use Rattle.tree_planner.specs.Handing.{landed, IsHandedTo}
+use Rattle.tree_planner.specs.Handing.{landed, AreHandedDown, AreStanding, HasStand, HasUnitAt, IsHandedTo, IsUnitAt}
 use Rattle.tree_flow.specs.Nodes.{IsKnown}
 use Rattle.tree_flow.specs.Settled.{HasComeDown, IsHandedDown}
 use Rattle.tree_flow.specs.State.{State, place_of, IsBalancedBut, IsKept}
 use Rattle.tree_flow.specs.Table.{at_node}
 use Rattle.tree_flow.proofs.Children.{followed_down}
 use Rattle.tree_flow.proofs.Under.{stands_known}
+use Rattle.tree_planner.proofs.Paired.{pairs_push_none, pairs_push_some}
 
 -- what one start loads on a worker
 abbrev pub load_of : Option ℕ → ℕ → ℕ
@@ -81,7 +83,7 @@ module _ (starts : List (Option ℕ)) (o : Option ℕ) where
 module _ (wave : Wave) (state : State) (left : NodeTable ℕ) (starts : List (Option ℕ))
     (h : IsHandedTo wave state left starts) where
   -- a split that waits
-  pub hand_none : place_of state (length starts) ≡ Waits → IsHandedTo wave state left (starts ++ None ∷ [])
+  hand_none : place_of state (length starts) ≡ Waits → IsHandedTo wave state left (starts ++ None ∷ [])
   hand_none waits = record {
     now = h.now;
     flow = h.flow;
@@ -104,7 +106,7 @@ module _ (wave : Wave) (state : State) (left : NodeTable ℕ) (starts : List (Op
   }
 
   -- a split whose unit has landed
-  pub hand_some : (new : NodeTable ℕ) (w : ℕ) (e : End) → place_of h.now (length starts) ≡ Stands e
+  hand_some : (new : NodeTable ℕ) (w : ℕ) (e : End) → place_of h.now (length starts) ≡ Stands e
       → length starts < length h.now.places → w < length wave.workers
       → IsBalancedBut wave (landed h.now (length starts) w new) None
       → ((v : TreeNode) → at_node new v ≤ at_node left v) → HasComeDown wave.tree state e.node w
@@ -139,7 +141,7 @@ module _ (wave : Wave) (state : State) (left : NodeTable ℕ) (starts : List (Op
   }
 
 -- at first no split has its start
-pub hand_first : (wave : Wave) (state : State) (left : NodeTable ℕ) → IsKept wave state
+hand_first : (wave : Wave) (state : State) (left : NodeTable ℕ) → IsKept wave state
     → ((v : TreeNode) → at_node left v ≡ state.flow v) → IsHandedTo wave state left []
 hand_first wave state left kept same = record {
   now = state;
@@ -154,7 +156,7 @@ hand_first wave state left kept same = record {
 }
 
 -- when all have theirs, all have come down
-pub hand_last : (wave : Wave) (state : State) (left : NodeTable ℕ) (starts : List (Option ℕ)) → IsKnown wave
+hand_last : (wave : Wave) (state : State) (left : NodeTable ℕ) (starts : List (Option ℕ)) → IsKnown wave
     → IsKept wave state → IsHandedTo wave state left starts → length starts ≡ length wave.splits
     → IsHandedDown wave state starts
 hand_last wave state left starts known kept h all = followed_down wave state h.now starts known kept.balanced (record {
@@ -177,7 +179,171 @@ hand_last wave state left starts known kept h all = followed_down wave state h.n
 })
 
 -- a split that neither stands nor is not shipped waits
-pub waits_else : (p : Place) → ((e : End) → p ≡ Stands e → ⊥) → (p ≡ Unshipped → ⊥) → p ≡ Waits
+waits_else : (p : Place) → ((e : End) → p ≡ Stands e → ⊥) → (p ≡ Unshipped → ⊥) → p ≡ Waits
 waits_else (Stands e) off other = absurd (off e refl)
 waits_else Waits off other = refl
 waits_else Unshipped off other = absurd (other refl)
+
+-- splits that wait have no starts
+module _ (wave : Wave) (state : State) (left : NodeTable ℕ) where
+  record HaveWaited (starts : List (Option ℕ)) (n : ℕ) : Type 0 where
+    pub more : List (Option ℕ)
+    pub size : length more ≡ length starts + n
+    pub pairs : pairs_of more ≡ pairs_of starts
+    pub handed : IsHandedTo wave state left more
+
+  wait_on : (n : ℕ) (starts : List (Option ℕ)) → IsHandedTo wave state left starts
+      → ((s : ℕ) → length starts ≤ s → s < length starts + n → place_of state s ≡ Waits) → HaveWaited starts n
+  wait_on zero starts h waits = record { more = starts; size = omega arith; pairs = refl; handed = h }
+  wait_on (suc n) starts h waits =
+      let size = push_size starts None in
+      let on = wait_on n (starts ++ None ∷ []) (hand_none wave state left starts h
+      (waits (length starts) (omega arith) (omega arith))) (λ s l m. waits s (omega arith) (omega arith)) in
+      let more = on.size in
+      let grown = on.size in
+      record { more = on.more; size = omega arith; pairs = on.pairs ∙ pairs_push_none starts; handed = on.handed }
+
+-- the first k of the splits that stand have their starts, these pairs
+pub record AreFirstHanded (wave : Wave) (state : State) (left : NodeTable ℕ) (splits : List ℕ) (k : ℕ)
+    (pairs : List (ℕ × ℕ)) : Type 0 where
+  pub starts : List (Option ℕ)
+  pub fits : length starts ≤ length wave.splits
+  pub handed : IsHandedTo wave state left starts
+  pub made : pairs_of starts ≡ pairs
+  pub past : (j : ℕ) → k ≤ j → j < length splits → length starts ≤ slice_index splits j
+  pub rest : (s : ℕ) → length starts ≤ s → HasStand state s
+      → (j : ℕ) × (k ≤ j) × (j < length splits) × (slice_index splits j ≡ s)
+
+pub first_handed : (wave : Wave) (state : State) (left : NodeTable ℕ) (splits : List ℕ) → IsKept wave state
+    → ((v : TreeNode) → at_node left v ≡ state.flow v) → AreStanding state splits
+    → AreFirstHanded wave state left splits 0 []
+first_handed wave state left splits kept same all = record {
+  starts = [];
+  fits = omega arith;
+  handed = hand_first wave state left kept same;
+  made = refl;
+  past = λ j l m. omega arith;
+  rest = λ s l stands. (let found = all.all s stands in
+      (found.0, omega arith, found.1, get_or_default splits found.0 0 s found.1 ∙ found.2));
+}
+
+module _ (wave : Wave) (state : State) (left : NodeTable ℕ) (splits : List ℕ) (k : ℕ) (pairs : List (ℕ × ℕ))
+    (kept : IsKept wave state)
+    (shipped : (s : ℕ) → s < length wave.splits → place_of state s ≢ Unshipped)
+    (all : AreStanding state splits) (h : AreFirstHanded wave state left splits k pairs) where
+  -- the splits up to one that the others to come do not come before wait
+  wait_to : (m : ℕ) → length h.starts ≤ m → m ≤ length wave.splits
+      → ((j : ℕ) → k ≤ j → j < length splits → m ≤ slice_index splits j)
+      → HaveWaited wave state left h.starts (m - length h.starts)
+  wait_to m from to first = wait_on wave state left (m - length h.starts) h.starts h.handed
+      (λ s l below. waits_else (place_of state s)
+      (λ e stands. (let found = h.rest s l (e, stands) in
+      let late = first found.0 found.1 found.2 in
+      let at = found.3 in
+      omega arith))
+      (shipped s (omega arith)))
+
+  module _ (within : k < length splits) where
+    abbrev next : ℕ
+    next = slice_index splits k
+
+    next_stands : HasStand state next
+    next_stands = all.each k 0 within
+
+    next_known : next < length wave.splits
+    next_known = (let l = stands_known state next next_stands.0 next_stands.1 in let size = kept.balanced.size in omega arith)
+
+    -- a later split comes after it
+    later : (j : ℕ) → k + 1 ≤ j → j < length splits → next + 1 ≤ slice_index splits j
+    later j l m = (let rise = all.rise k j 0 (omega arith) m in omega arith)
+
+    up_to : HaveWaited wave state left h.starts (next - length h.starts)
+    up_to = wait_to next (h.past k (omega arith) within) (let l = next_known in omega arith)
+        (λ j l m. elim (cases_eq j k) [
+          | inl e ↦ (let same = ap (λ (j : ℕ). slice_index splits j) e in omega arith)
+          | inr n ↦ (let after = later j (omega arith) m in omega arith)
+        ])
+
+    up_to_next : length up_to.more ≡ next
+    up_to_next = (let size = up_to.size in let past = h.past k (omega arith) within in omega arith)
+
+    -- its unit can go down
+    unit_of_next : (e : End) → place_of state next ≡ Stands e → IsUnitAt wave left e.node up_to.handed.now next e
+    unit_of_next e stands = record {
+      flow = up_to.handed.flow;
+      balanced = up_to.handed.balanced;
+      known = (let l = next_known in let size = up_to.handed.balanced.size in omega arith);
+      stands = up_to.handed.later next (let is = up_to_next in omega arith) ∙ stands;
+      at = refl;
+    }
+
+    pub next_has_unit : (s : ℕ) (e : End) → s ≡ next → place_of state s ≡ Stands e → HasUnitAt wave left e.node
+    next_has_unit s e is stands =
+        (up_to.handed.now, next, e, unit_of_next e (ap (λ (s : ℕ). place_of state s) (sym is) ∙ stands))
+
+    -- when it has landed, one more is handed
+    next_handed : (new : NodeTable ℕ) (w : ℕ) (e : End) → place_of state next ≡ Stands e
+        → w < length wave.workers
+        → IsBalancedBut wave (landed up_to.handed.now next w new) None
+        → ((v : TreeNode) → at_node new v ≤ at_node left v) → HasComeDown wave.tree state e.node w
+        → AreFirstHanded wave state new splits (k + 1) (pairs ++ (next, w) ∷ [])
+    next_handed new w e stands worker balanced fell down =
+        let more = up_to.more in
+        let is = up_to_next in
+        let unit = unit_of_next e stands in
+        let size = push_size more (Some w) in
+        let known = next_known in
+        record {
+          starts = more ++ Some w ∷ [];
+          fits = omega arith;
+          handed = hand_some wave state left more up_to.handed new w e
+              (ap (λ (s : ℕ). place_of up_to.handed.now s) is ∙ unit.stands)
+              (let l = unit.known in omega arith) worker
+              (subst (λ (s : ℕ). IsBalancedBut wave (landed up_to.handed.now s w new) None) (sym is) balanced)
+              fell down;
+          made = pairs_push_some more next w (sym is)
+              ∙ ap (λ (ps : List (ℕ × ℕ)). ps ++ (next, w) ∷ []) (up_to.pairs ∙ h.made);
+          past = λ j l m. (let after = later j l m in omega arith);
+          rest = λ s l there. (let found = h.rest s (let past = h.past k (omega arith) within in omega arith) there in
+              let at = found.3 in
+              elim (cases_eq found.0 k) [
+                | inl e ↦ absurd (let same = ap (λ (j : ℕ). slice_index splits j) e in omega arith)
+                | inr n ↦ (found.0, (let l = found.1 in omega arith), found.2, found.3)
+              ]);
+        }
+
+    -- so it is with what is known of the way down
+    pub one_handed : (new : NodeTable ℕ) (s w : ℕ) (e : End) → s ≡ next → place_of state s ≡ Stands e
+        → w < length wave.workers
+        → ((now : State) (s : ℕ) (x : End) → IsUnitAt wave left e.node now s x
+        → IsBalancedBut wave (landed now s w new) None)
+        → ((v : TreeNode) → at_node new v ≤ at_node left v)
+        → ((old : State) → ((v : TreeNode) → at_node left v ≤ old.flow v) → HasComeDown wave.tree old e.node w)
+        → AreFirstHanded wave state new splits (k + 1) (pairs ++ (s, w) ∷ [])
+    one_handed new s w e is stands worker lands fell down =
+        let there = ap (λ (s : ℕ). place_of state s) (sym is) ∙ stands in
+        subst (λ (s : ℕ). AreFirstHanded wave state new splits (k + 1) (pairs ++ (s, w) ∷ [])) (sym is)
+        (next_handed new w e there worker (lands up_to.handed.now next e (unit_of_next e there)) fell
+        (down state up_to.handed.fell))
+
+  -- when all are, they are handed down
+  pub all_handed : IsKnown wave → length splits ≤ k → AreHandedDown wave state pairs
+  all_handed known past =
+      let on = wait_to (length wave.splits) h.fits (omega arith) (λ j l m. absurd (omega arith)) in
+      let size : length on.more ≡ length wave.splits =
+      (let more = on.size in let fits = h.fits in omega arith) in
+      record {
+        planned = record {
+          starts = on.more;
+          made = on.pairs ∙ h.made;
+          size = size;
+          known = λ s d l. if_some (slice_index_or on.more s d) (λ w is.
+              (on.handed.started s w (sym (get_or_default on.more s d None l) ∙ is)).0);
+        };
+        down = hand_last wave state left on.more known kept on.handed size;
+      }
+    where
+      if_some : (o : Option ℕ) → ((w : ℕ) → o ≡ Some w → w < length wave.workers)
+          → IfSome o (λ w. w < length wave.workers)
+      if_some None f = tt
+      if_some (Some w) f = f w refl

@@ -1,12 +1,14 @@
 -- How units are handed down, split by split.
 use Rattle.std.specs.Prelude.{ℕ, ◌≡◌, ◌+◌, ◌<◌, ◌≤◌, ◌==◌, cond, List, length, Option, Some, None, slice_set}
+use Rattle.std.specs.Prelude.{All, Contains, IfSome}
+use Rattle.std.specs.List.{AllPairs}
 use Rattle.wave_problem.specs.Wave.{Wave}
 use Rattle.wave_problem.specs.Assignment.{load, pairs_of, start_of}
 use Rattle.tree_flow.specs.declared.node_table.NodeTable.{NodeTable}
 use Rattle.tree_flow.specs.declared.nodes.End.{End}
 use Rattle.tree_flow.specs.declared.nodes.Place.TheVariants.{Stands, Unshipped, Waits}
 use Rattle.tree_flow.specs.declared.nodes.TreeNode.{TreeNode}
-use Rattle.tree_flow.specs.Settled.{HasComeDown}
+use Rattle.tree_flow.specs.Settled.{HasComeDown, IsHandedDown}
 use Rattle.tree_flow.specs.State.{State, place_of, IsBalancedBut}
 use Rattle.tree_flow.specs.Table.{at_node}
 
@@ -41,3 +43,25 @@ pub record IsHandedTo (wave : Wave) (state : State) (left : NodeTable ℕ) (star
   pub started : (s w : ℕ) → start_of starts s ≡ Some w → (w < length wave.workers)
       × ((e : End) × (place_of state s ≡ Stands e) × HasComeDown wave.tree state e.node w)
   pub waiting : (s : ℕ) → s < length starts → start_of starts s ≡ None → place_of state s ≡ Waits
+
+-- a split stands at some end
+abbrev pub HasStand : State → ℕ → Type 0
+HasStand state s = (e : End) × (place_of state s ≡ Stands e)
+
+-- these splits stand, each once, by rising number, and no others
+pub record AreStanding (state : State) (splits : List ℕ) : Type 0 where
+  pub rise : AllPairs (λ s t. s < t) splits
+  pub each : All (HasStand state) splits
+  pub all : (s : ℕ) → HasStand state s → Contains splits s
+
+-- a plan of the wave makes just these starts, by rising split
+pub record ArePlanned (wave : Wave) (pairs : List (ℕ × ℕ)) : Type 0 where
+  pub starts : List (Option ℕ)
+  pub made : pairs_of starts ≡ pairs
+  pub size : length starts ≡ length wave.splits
+  pub known : All (λ start. IfSome start (λ w. w < length wave.workers)) starts
+
+-- and to these workers the units of the splits that stand go down
+pub record AreHandedDown (wave : Wave) (state : State) (pairs : List (ℕ × ℕ)) : Type 0 where
+  pub planned : ArePlanned wave pairs
+  pub down : IsHandedDown wave state planned.starts

@@ -20,7 +20,7 @@ use crate::children::{Children, all_children};
 use crate::choice::{Choice, choose};
 use crate::down::take_below;
 use crate::follow::{deepen, follow, place};
-use crate::hand_down::{Starts, all_starts, place_at};
+use crate::hand_down::{all_starts, place_at, plan_of};
 use crate::order::shipping_order;
 use crate::prices::prices_of;
 use crate::search::{Ground, Search, find_way};
@@ -417,11 +417,11 @@ pub fn read_off(
     ensures pairs { IfOk result (λ found. found.pairs.items ≡ pairs_of found.plan.starts) }
 {
     problem.limits();
-    let starts = all_starts(alloc, problem, &fixed.children, tables)?;
-    let prices = prices_of(alloc, problem, tables.worth, tables, &starts)?;
-    let Starts { each, pairs } = starts;
+    let pairs = all_starts(alloc, problem, &fixed.children, tables)?;
+    let plan = plan_of(alloc, problem, &pairs)?;
+    let prices = prices_of(alloc, problem, tables.worth, tables, &pairs)?;
     Ok(Found {
-        plan: Plan::from_starts(each, problem.workers()),
+        plan,
         prices,
         pairs,
     })

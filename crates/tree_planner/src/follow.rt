@@ -21,6 +21,9 @@ use node_ids::WorkerNo;
 use tree_flow::{End, NodeTable, Place, TreeNode};
 use wave_problem::Problem;
 
+// So many cells more than two for each split that stands are no reason to make the lists anew.
+const SPARE_CELLS: usize = 1_024;
+
 /// After a search each node that is nearer than the end of the way lies deeper by the rest, and none deeper
 /// than a start is worth.
 pub fn deepen(problem: &Problem, worth: u64, depth: &mut NodeTable<u64>, search: &Search)
@@ -207,6 +210,17 @@ fn list(problem: &Problem, tables: &mut Tables, split: u32, node: TreeNode)
         tables
             .standing
             .add(problem.tree(), problem.splits(), node, split);
+    }
+}
+
+/// Makes all lists anew where they have many more cells than splits stand: more than two for each, and some.
+pub fn shorten_lists(problem: &Problem, tables: &mut Tables, stand: usize)
+    requires { AreTables problem.now tables.old }
+    ensures rest { tables.new ≡ record tables.old { standing = tables.new.standing } }
+    ensures tables { AreTables problem.now tables.new }
+{
+    if tables.standing.used.saturating_sub(SPARE_CELLS) / 2 > stand {
+        list_all(problem, tables);
     }
 }
 

@@ -1,122 +1,138 @@
 //! Units handed down to workers.
-ghost use Rattle.std.specs.Prelude.{◌≡◌, ◌≢◌, ℕ, ◌<◌, ◌≤◌, ◌++◌, ◌∷◌, ◌^◌, [], IfOk, IfSome, OnOk, All, length};
-ghost use Rattle.std.specs.Prelude.{vec_capacity, None};
+ghost use Rattle.std.specs.Prelude.{◌≡◌, ◌≢◌, ℕ, ◌<◌, ◌≤◌, ◌^◌, IfOk, All, Contains, length, List, Option};
+ghost use Rattle.std.specs.Prelude.{None};
 ghost use Rattle.wave_problem.specs.Assignment.{pairs_of};
 ghost use Rattle.tree_flow.specs.declared.nodes.End.{End};
 ghost use Rattle.tree_flow.specs.declared.nodes.Place.TheVariants.{Unshipped};
 ghost use Rattle.tree_flow.specs.declared.nodes.TreeNode.{TreeNode};
 ghost use Rattle.tree_flow.specs.declared.nodes.TreeNode.TheVariants.{Cluster, Worker};
 ghost use Rattle.tree_planner.specs.Hanging.{AreChildren};
-ghost use Rattle.tree_planner.specs.Handing.{landed, HasUnitAt, IsHandedTo, IsUnitAt};
+ghost use Rattle.tree_planner.specs.Handing.{landed, AreHandedDown, ArePlanned, AreStanding, HasStand, HasUnitAt};
+ghost use Rattle.tree_planner.specs.Handing.{IsUnitAt};
 ghost use Rattle.tree_flow.specs.Nodes.{parent, IsKnown, IsNode};
-ghost use Rattle.tree_flow.specs.Settled.{HasComeDown, IsHandedDown};
+ghost use Rattle.tree_flow.specs.Settled.{HasComeDown};
 ghost use Rattle.tree_flow.specs.State.{State, place_of, IsBalancedBut, IsKept};
 ghost use Rattle.tree_flow.specs.Table.{at_node, IsOver};
 ghost use Rattle.tree_planner.specs.View.{state_of, AreTables};
 
 use crate::children::Children;
 use crate::cursors::{Cursors, child_with};
+use crate::follow::stood_at;
 use crate::tables::Tables;
 use node_ids::{SplitNo, WorkerNo};
 use std::alloc::{AllocError, Global};
 use tree_flow::{NodeTable, Place, TreeNode};
-use wave_problem::Problem;
+use wave_problem::{Plan, Problem};
 
-/// The start of each split, and the splits that start, each with its worker, by rising split.
-#[derive(Drop)]
-pub struct Starts {
-    pub each: Vec<Option<WorkerNo>>,
-    pub pairs: Vec<(SplitNo, WorkerNo)>,
-}
+// Where the lists have at most this part of a cell for each split, the cells are looked through and not the splits.
+const FEW: usize = 8;
 
-impl Starts {
-    // Adds the start of the next split.
-    fn add(&mut self, start: Option<WorkerNo>) -> Result<(), AllocError>
-        requires few { length self.old.each.items < 2 ^ 32 }
-        requires room { length self.old.each.items < vec_capacity self.old.each }
-        requires pairs { self.old.pairs.items ≡ pairs_of self.old.each.items }
-        ensures each { OnOk result (self.new.each.items ≡ self.old.each.items ++ start ∷ []) }
-        ensures room { OnOk result (vec_capacity self.new.each ≡ vec_capacity self.old.each) }
-        ensures pairs { OnOk result (self.new.pairs.items ≡ pairs_of self.new.each.items) }
-    {
-        let Some(worker) = start else {
-            self.each.push_reserved(None);
-            return Ok(());
-        };
-        let split = SplitNo::new(self.each.len() as u32);
-        self.pairs.push((split, worker))?;
-        self.each.push_reserved(Some(worker));
-        Ok(())
-    }
-}
-
-/// The start of each split: where one stands, a worker to which its unit goes down.
+/// The splits that start, each with its worker, by rising split: where one stands, a worker to which its unit
+/// goes down.
 pub fn all_starts(
     alloc: Global,
     problem: &Problem,
     children: &Children,
     tables: &Tables,
-) -> Result<Starts, AllocError>
+) -> Result<Vec<(SplitNo, WorkerNo)>, AllocError>
     requires children { AreChildren problem.now.tree children.now }
     requires tables { AreTables problem.now tables.now }
     requires kept { IsKept problem.now (state_of tables.now) }
     requires shipped { (s : ℕ) → s < length problem.now.splits
         → place_of (state_of tables.now) s ≢ Unshipped }
-    ensures down { IfOk result
-        (λ starts. IsHandedDown problem.now (state_of tables.now) starts.each.items) }
-    ensures known { IfOk result
-        (λ starts. All (λ start. IfSome start (λ w. w < length problem.now.workers)) starts.each.items) }
-    ensures pairs { IfOk result (λ starts. starts.pairs.items ≡ pairs_of starts.each.items) }
+    ensures { IfOk result (λ pairs. AreHandedDown problem.now (state_of tables.now) pairs.items) }
 {
     problem.limits();
     let mut left = tables.flow.copy(alloc)?;
     let mut cursors = Cursors::new(alloc, problem.tree())?;
-    let mut starts = Starts {
-        each: Vec::with_capacity(alloc, problem.splits())?,
-        pairs: Vec::new(alloc),
-    };
-    for _k in 0..problem.splits() {
-        let start = next_start(
-            problem,
-            children,
-            tables,
-            &mut left,
-            &mut cursors,
-            &starts.each,
-        );
-        starts.add(start)?;
+    let standing = standing_splits(alloc, problem, tables)?;
+    let mut pairs = Vec::with_capacity(alloc, standing.len())?;
+    for split in &standing {
+        let end = stood_at(tables, *split);
+        let worker = go_down(problem, children, &mut left, &mut cursors, end.node);
+        let number = SplitNo::new(*split);
+        let on = WorkerNo::new(worker);
+        pairs.push((number, on))?;
     }
-    Ok(starts)
+    Ok(pairs)
 }
 
-// The start of the split after those that have theirs.
-fn next_start(
+// The splits that stand, by rising number.
+fn standing_splits(
+    alloc: Global,
     problem: &Problem,
-    children: &Children,
     tables: &Tables,
-    left: &mut NodeTable<u64>,
-    cursors: &mut Cursors,
-    starts: &[Option<WorkerNo>],
-) -> Option<WorkerNo>
-    requires children { AreChildren problem.now.tree children.now }
-    requires tables { AreTables problem.now tables.now }
-    requires shipped { (s : ℕ) → s < length problem.now.splits
-        → place_of (state_of tables.now) s ≢ Unshipped }
-    requires more { length starts.now < length problem.now.splits }
-    requires over { IsOver problem.now.tree left.old }
-    requires kept { IsKept problem.now (state_of tables.now) }
-    requires handed { IsHandedTo problem.now (state_of tables.now) left.old starts.now }
-    ensures over { IsOver problem.now.tree left.new }
-    ensures handed { IsHandedTo problem.now (state_of tables.now) left.new (starts.now ++ result ∷ []) }
-    ensures known { IfSome result (λ w. w < length problem.now.workers) }
+) -> Result<Vec<u32>, AllocError>
+    requires { AreTables problem.now tables.now }
+    ensures { IfOk result (λ splits. AreStanding (state_of tables.now) splits.items) }
 {
-    match place_at(tables, starts.len()) {
-        Place::Stands(end) => {
-            let worker = go_down(problem, children, left, cursors, end.node);
-            Some(WorkerNo::new(worker))
-        }
-        _ => None,
+    if tables.standing.used > problem.splits() / FEW {
+        return standing_of_all(alloc, problem, tables);
     }
+    let mut splits = standing_of_cells(alloc, problem, tables)?;
+    splits.sort_unstable();
+    splits.dedup();
+    Ok(splits)
+}
+
+// The same, found among all splits.
+fn standing_of_all(
+    alloc: Global,
+    problem: &Problem,
+    tables: &Tables,
+) -> Result<Vec<u32>, AllocError>
+    requires { AreTables problem.now tables.now }
+    ensures { IfOk result (λ splits. AreStanding (state_of tables.now) splits.items) }
+{
+    problem.limits();
+    let mut splits = Vec::new(alloc);
+    for s in 0..problem.splits() {
+        if let Place::Stands(_) = place_at(tables, s) {
+            splits.push(s as u32)?;
+        }
+    }
+    Ok(splits)
+}
+
+// The splits that stand, found in the cells of the lists: in the order of the cells, some of them twice.
+fn standing_of_cells(
+    alloc: Global,
+    problem: &Problem,
+    tables: &Tables,
+) -> Result<Vec<u32>, AllocError>
+    requires { AreTables problem.now tables.now }
+    ensures each { IfOk result (λ splits. All (HasStand (state_of tables.now)) splits.items) }
+    ensures all { IfOk result (λ splits. (s : ℕ) → HasStand (state_of tables.now) s
+        → Contains splits.items s) }
+{
+    let _ = problem;
+    let mut splits = Vec::new(alloc);
+    for k in 0..tables.standing.used {
+        let split = tables.standing.split_at(k);
+        if let Place::Stands(_) = place_at(tables, split as usize) {
+            splits.push(split)?;
+        }
+    }
+    Ok(splits)
+}
+
+/// The plan that starts just these pairs.
+pub fn plan_of(
+    alloc: Global,
+    problem: &Problem,
+    pairs: &[(SplitNo, WorkerNo)],
+) -> Result<Plan, AllocError>
+    requires { ArePlanned problem.now pairs.now }
+    ensures starts { IfOk result (λ plan. (starts : List (Option ℕ)) → length starts ≡ length problem.now.splits
+        → pairs_of starts ≡ pairs.now → plan.starts ≡ starts) }
+    ensures workers { IfOk result (λ plan. plan.workers ≡ length problem.now.workers) }
+{
+    problem.limits();
+    let mut plan = Plan::new(alloc, problem.splits(), problem.workers())?;
+    for pair in pairs {
+        plan.set(pair.0, Some(pair.1));
+    }
+    Ok(plan)
 }
 
 /// Where a split is.

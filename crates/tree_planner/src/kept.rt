@@ -11,11 +11,14 @@ ghost use Rattle.tree_planner.specs.Going.{turned, HasSameGround};
 ghost use Rattle.tree_planner.specs.WayBack.{AreAllSame};
 ghost use Rattle.tree_planner.specs.Shown.{state_in};
 ghost use Rattle.tree_flow.specs.State.{place_of, IsKept};
+ghost use Rattle.tree_planner.specs.Starting.{AreBestStarts};
 ghost use Rattle.tree_planner.specs.Way.{AreOthersSame};
 ghost use Rattle.wave_problem.specs.Assignment.{pairs_of, IsBest};
 
 use crate::engine::{Fixed, Found, fixed_parts, read_off, ship};
 use crate::events::{free, pass_over, pend, place_at, settle, start};
+use crate::follow::shorten_lists;
+use crate::hand_down::all_starts;
 use crate::like::is_like;
 use crate::lose::lose;
 use crate::refill::Spare;
@@ -326,5 +329,19 @@ impl Engine {
         ensures pairs { IfOk result (λ found. found.pairs.items ≡ pairs_of found.plan.starts) }
     {
         read_off(alloc, &self.problem, &self.fixed, &self.tables)
+    }
+
+    /// The splits that start when every split is shipped, each with its worker, by rising split. It takes as long as
+    /// there are splits that stand, not as there are splits, and needs no prices.
+    pub fn starts(&mut self, alloc: Global) -> Result<Vec<(SplitNo, WorkerNo)>, AllocError>
+        requires { (s : ℕ) → s < length self.old.wave.splits → place_of (state_in self.old) s ≢ Unshipped }
+        ensures best { IfOk result (λ pairs. AreBestStarts self.old.wave pairs.items) }
+        ensures wave { self.new.wave ≡ self.old.wave }
+        ensures state { state_in self.new ≡ state_in self.old }
+    {
+        self.problem.limits();
+        let pairs = all_starts(alloc, &self.problem, &self.fixed.children, &self.tables)?;
+        shorten_lists(&self.problem, &mut self.tables, pairs.len());
+        Ok(pairs)
     }
 }

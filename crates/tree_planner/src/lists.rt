@@ -57,6 +57,14 @@ impl Standing {
         self.last.get(node)
     }
 
+    /// The split of a cell, by its place from 0 on.
+    pub fn split_at(&self, place: usize) -> u32
+        requires { place < length self.now.cells.items }
+        ensures { result ≡ (at_cell self.now.cells.items place).split }
+    {
+        self.cells[place].split
+    }
+
     /// Whether no cell is left.
     pub fn is_full(&self) -> bool
         ensures { IsTrue result ↔ (length self.now.cells.items ≤ self.now.used) }

@@ -1,12 +1,15 @@
 //! A slot of a worker that goes away.
-ghost use Rattle.std.specs.Prelude.{◌≡◌, ◌≢◌, ◌<◌, ◌↔◌, ℕ, true, IsTrue, OnErr, OnOk, Some, length};
-ghost use Rattle.wave_problem.specs.Assignment.{start_of};
+ghost use Rattle.std.specs.Prelude.{◌≡◌, ◌≢◌, ◌<◌, ℕ, true, OnErr, OnOk, Some, length};
 ghost use Rattle.wave_problem.specs.Wave.{IsUsable};
+ghost use Rattle.tree_flow.specs.declared.nodes.End.{End};
+ghost use Rattle.tree_flow.specs.declared.nodes.Place.TheVariants.{Stands};
 ghost use Rattle.tree_flow.specs.declared.nodes.TreeNode.TheVariants.{Cluster, Worker};
 ghost use Rattle.tree_flow.specs.Nodes.{is_under, parent, IsNode};
-ghost use Rattle.tree_flow.specs.Settled.{HasComeDown, IsHandedDown};
+ghost use Rattle.tree_flow.specs.Settled.{HasComeDown};
+ghost use Rattle.tree_flow.specs.State.{place_of};
 ghost use Rattle.tree_planner.specs.Engine.{IsFixed, IsStanding, IsStandingBut};
 ghost use Rattle.tree_planner.specs.Events.{slot_less};
+ghost use Rattle.tree_planner.specs.Handing.{AreHandedDown};
 ghost use Rattle.tree_planner.specs.View.{state_of};
 
 use crate::engine::Fixed;
@@ -16,7 +19,7 @@ use crate::hand_down::all_starts;
 use crate::refill::sink_to;
 use crate::tables::Tables;
 use crate::tree_nodes::node_above;
-use node_ids::WorkerNo;
+use node_ids::{SplitNo, WorkerNo};
 use std::alloc::{AllocError, Global};
 use tree_flow::TreeNode;
 use wave_problem::Problem;
@@ -82,11 +85,11 @@ fn empty_any_slot(
     ensures err { OnErr result (IsStanding problem.now tables.new) }
 {
     settle(alloc, problem, fixed, tables)?;
-    let starts = all_starts(alloc, problem, &fixed.children, tables)?;
+    let pairs = all_starts(alloc, problem, &fixed.children, tables)?;
     if tables.free[worker.index()] > 0 {
         empty_free_slot(problem, tables, worker);
     } else {
-        pull_from(problem, fixed, tables, worker, &starts.each);
+        pull_from(problem, fixed, tables, worker, &pairs);
     }
     Ok(())
 }
@@ -107,17 +110,17 @@ fn pull_from(
     fixed: &Fixed,
     tables: &mut Tables,
     worker: WorkerNo,
-    starts: &[Option<WorkerNo>],
+    pairs: &[(SplitNo, WorkerNo)],
 )
     requires fixed { IsFixed problem.now fixed.now }
     requires standing { IsStanding problem.now tables.old }
     requires worker { worker < length problem.now.workers }
     requires usable { IsUsable problem.now.workers worker }
     requires full { (state_of tables.old).free worker ≡ 0 }
-    requires down { IsHandedDown problem.now (state_of tables.old) starts.now }
+    requires down { AreHandedDown problem.now (state_of tables.old) pairs.now }
     ensures hole { IsStandingBut problem.now tables.new (Some (Worker worker)) }
 {
-    let split = start_on(problem, tables, worker, starts);
+    let split = start_on(problem, tables, worker, pairs);
     let end = stood_at(tables, split);
     take_off(problem, tables, split, end);
     sink_toward(problem, fixed, tables, end.node, worker);
@@ -128,33 +131,26 @@ fn start_on(
     problem: &Problem,
     tables: &Tables,
     worker: WorkerNo,
-    starts: &[Option<WorkerNo>],
+    pairs: &[(SplitNo, WorkerNo)],
 ) -> u32
     requires standing { IsStanding problem.now tables.now }
     requires worker { worker < length problem.now.workers }
     requires usable { IsUsable problem.now.workers worker }
     requires full { (state_of tables.now).free worker ≡ 0 }
-    requires down { IsHandedDown problem.now (state_of tables.now) starts.now }
-    ensures known { result < length starts.now }
-    ensures start { start_of starts.now result ≡ Some worker }
+    requires down { AreHandedDown problem.now (state_of tables.now) pairs.now }
+    ensures known { result < length problem.now.splits }
+    ensures down { (e : End) × (place_of (state_of tables.now) result ≡ Stands e)
+        × HasComeDown problem.now.tree (state_of tables.now) e.node worker }
 {
     let _splits = problem.splits();
-    for s in 0..starts.len() {
-        if is_start(starts[s], worker) {
-            return s as u32;
+    for pair in pairs {
+        let on = pair.1.index();
+        if on == worker.index() {
+            let split = pair.0.index();
+            return split as u32;
         }
     }
     unreachable!()
-}
-
-// Whether a start is on the worker.
-fn is_start(start: Option<WorkerNo>, worker: WorkerNo) -> bool
-    ensures { IsTrue result ↔ (start ≡ Some worker) }
-{
-    match start {
-        Some(found) => found.index() == worker.index(),
-        None => false,
-    }
 }
 
 // Lets a hole sink to a worker to which a unit has come down.

@@ -1,13 +1,13 @@
 //! Prices read off the depths.
-ghost use Rattle.std.specs.Prelude.{◌≡◌, ◌+◌, ◌-◌, ◌<◌, ◌≤◌, ℕ, All, IfOk, IfSome, length, slice_index, unwrap_or};
+ghost use Rattle.std.specs.Prelude.{◌≡◌, ◌+◌, ◌-◌, ◌<◌, ◌≤◌, ℕ, IfOk, List, Option, length, slice_index, unwrap_or};
 ghost use Rattle.wave_problem.specs.Assignment.{pairs_of};
 ghost use Rattle.wave_problem.specs.Wave.{cost, IsUsable};
 ghost use Rattle.tree_flow.specs.Nodes.{node_above};
 ghost use Rattle.tree_flow.specs.Settled.{deepest_above, ArePrices};
+ghost use Rattle.tree_planner.specs.Handing.{ArePlanned};
 ghost use Rattle.tree_planner.specs.Priced.{AreWorkerPrices, IsSplitPrice, IsWorkerPrice};
 ghost use Rattle.tree_planner.specs.View.{state_of, AreTables};
 
-use crate::hand_down::Starts;
 use crate::tables::Tables;
 use crate::tree_nodes::node_above;
 use node_ids::{SplitNo, WorkerNo};
@@ -22,21 +22,19 @@ pub fn prices_of(
     problem: &Problem,
     worth: u64,
     tables: &Tables,
-    starts: &Starts,
+    pairs: &[(SplitNo, WorkerNo)],
 ) -> Result<Prices, AllocError>
     requires worth { worth ≡ (state_of tables.now).terms.worth }
     requires tables { AreTables problem.now tables.now }
-    requires splits { length starts.now.each.items ≡ length problem.now.splits }
-    requires workers { All (λ start. IfSome start (λ w. w < length problem.now.workers))
-        starts.now.each.items }
-    requires pairs { starts.now.pairs.items ≡ pairs_of starts.now.each.items }
+    requires planned { ArePlanned problem.now pairs.now }
     ensures splits { IfOk result (λ prices. length prices.splits ≡ length problem.now.splits) }
     ensures workers { IfOk result (λ prices. length prices.workers ≡ length problem.now.workers) }
     ensures prices { IfOk result
-        (λ prices. ArePrices problem.now (state_of tables.now) starts.now.each.items prices) }
+        (λ prices. (starts : List (Option ℕ)) → pairs_of starts ≡ pairs.now
+        → ArePrices problem.now (state_of tables.now) starts prices) }
 {
     let workers = worker_prices(alloc, problem, tables)?;
-    let splits = split_prices(alloc, problem, worth, starts, &workers)?;
+    let splits = split_prices(alloc, problem, worth, pairs, &workers)?;
     Ok(Prices::from_lists(splits, workers))
 }
 
@@ -81,20 +79,17 @@ fn split_prices(
     alloc: Global,
     problem: &Problem,
     worth: u64,
-    starts: &Starts,
+    pairs: &[(SplitNo, WorkerNo)],
     workers: &[u64],
 ) -> Result<Vec<u64>, AllocError>
-    requires splits { length starts.now.each.items ≡ length problem.now.splits }
-    requires known { All (λ start. IfSome start (λ w. w < length problem.now.workers))
-        starts.now.each.items }
-    requires pairs { starts.now.pairs.items ≡ pairs_of starts.now.each.items }
+    requires planned { ArePlanned problem.now pairs.now }
     requires workers { length workers.now ≡ length problem.now.workers }
     ensures size { IfOk result (λ prices. length prices.items ≡ length problem.now.splits) }
-    ensures prices { IfOk result (λ prices. (s : ℕ)
-        → IsSplitPrice problem.now worth starts.now.each.items workers.now s (slice_index prices.items s)) }
+    ensures prices { IfOk result (λ prices. (starts : List (Option ℕ)) → pairs_of starts ≡ pairs.now → (s : ℕ)
+        → IsSplitPrice problem.now worth starts workers.now s (slice_index prices.items s)) }
 {
     let mut prices = vec![in alloc; 0; problem.splits()]?;
-    for pair in &starts.pairs {
+    for pair in pairs {
         let (split, worker) = *pair;
         prices[split.index()] = split_price(problem, worth, workers, split, worker);
     }

@@ -1,38 +1,32 @@
-use Rattle.std.proofs.Common.{◌∙◌, ap, length, subst, sym}
+use Rattle.std.proofs.Common.{◌≡◌, ◌∙◌, List, Option, ℕ, ap, length, subst, sym}
+use Rattle.wave_problem.specs.Assignment.{pairs_of}
 use Rattle.tree_flow.specs.Settled.{ArePrices, IsHandedDown}
 use Rattle.tree_planner.specs.View.{state_of}
 use Rattle.tree_flow.proofs.Certified.{engine_certifies, engine_is_best}
 use Rattle.tree_planner.proofs.engine.read_off.Goals as goal
 
-pub returns-clause-sizes : goal.returns-clause-sizes
-returns-clause-sizes c = record {
-  starts = ap length c.from_starts.ensures.starts ∙ c.in_ok-starts.ensures.down.size;
-  workers = c.from_starts.ensures.workers ∙ c.workers.ensures.count;
-  split_prices = c.in_ok-prices.ensures.splits;
-  worker_prices = c.in_ok-prices.ensures.workers;
-}
-
-pub returns-clause-certifies : goal.returns-clause-certifies
-returns-clause-certifies c = λ places terms.
-    (let wave = c.args.problem.now in
+pub returns : goal.returns
+returns c =
+    let wave = c.args.problem.now in
     let state = state_of c.args.tables.now in
-    let plan = c.from_starts.result in
-    engine_certifies wave places state plan.starts c.in_ok-prices.prices terms c.limits.ensures.problem.near
-    c.requires.fixed.known c.requires.held.kept
-    (subst (λ xs. IsHandedDown wave state xs) (sym c.from_starts.ensures.starts) c.in_ok-starts.ensures.down)
-    (subst (λ xs. ArePrices wave state xs c.in_ok-prices.prices) (sym c.from_starts.ensures.starts)
-    c.in_ok-prices.ensures.prices))
-
-pub returns-clause-best : goal.returns-clause-best
-returns-clause-best c = λ places fit terms.
-    (let wave = c.args.problem.now in
-    let state = state_of c.args.tables.now in
-    let plan = c.from_starts.result in
-    engine_is_best wave places state plan.starts c.in_ok-prices.prices fit terms c.limits.ensures.problem.near
-    c.requires.fixed.known c.requires.held.kept
-    (subst (λ xs. IsHandedDown wave state xs) (sym c.from_starts.ensures.starts) c.in_ok-starts.ensures.down)
-    (subst (λ xs. ArePrices wave state xs c.in_ok-prices.prices) (sym c.from_starts.ensures.starts)
-    c.in_ok-prices.ensures.prices))
-
-pub returns-clause-idle : goal.returns-clause-idle
-returns-clause-idle c = c.in_ok-prices.ensures.prices.unusable
+    let starts = c.in_ok-plan.plan.starts in
+    let prices = c.in_ok-prices.prices in
+    let near = c.limits.ensures.problem.near in
+    let p = c.in_ok-pairs.ensures.planned in
+    let made = c.in_ok-plan.ensures.starts p.starts p.size (p.made ∙ sym c.deref.ensures.value) in
+    let down = subst (λ (xs : List (Option ℕ)). IsHandedDown wave state xs) (sym made) c.in_ok-pairs.ensures.down in
+    let are = c.in_ok-prices.ensures.prices starts (ap pairs_of made ∙ p.made ∙ sym c.deref-2.ensures.value) in
+    record {
+      sizes = record {
+        starts = ap length made ∙ p.size;
+        workers = c.in_ok-plan.ensures.workers;
+        split_prices = c.in_ok-prices.ensures.splits;
+        worker_prices = c.in_ok-prices.ensures.workers;
+      };
+      certifies = λ places terms. engine_certifies wave places state starts prices terms near c.requires.fixed.known
+          c.requires.held.kept down are;
+      idle = are.unusable;
+      best = λ places fit terms. engine_is_best wave places state starts prices fit terms near c.requires.fixed.known
+          c.requires.held.kept down are;
+      pairs = sym (ap pairs_of made ∙ p.made);
+    }

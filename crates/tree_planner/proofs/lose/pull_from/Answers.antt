@@ -8,7 +8,7 @@ use Rattle.tree_planner.proofs.lose.pull_from.Goals as goal
 
 pub stood_at-end-requires-clause-stands : goal.stood_at-end-requires-clause-stands
 stood_at-end-requires-clause-stands c =
-    let down = c.requires.down.started c.start_on-split.result c.args.worker c.start_on-split.ensures.start in
+    let down = c.start_on-split.ensures.down in
     (down.0, down.1)
 
 pub sink_toward-requires-clause-known : goal.sink_toward-requires-clause-known
@@ -22,7 +22,7 @@ sink_toward-requires-clause-down c =
     let old = state_of c.args.tables.now in
     let split = c.start_on-split.result in
     let end = c.stood_at-end.result in
-    let down = c.requires.down.started split c.args.worker c.start_on-split.ensures.start in
+    let down = c.start_on-split.ensures.down in
     come_same wave.tree old (state_of c.take_off.new.tables) end.node c.args.worker
     c.take_off.ensures.placed.flow
     (subst (λ (e : End). HasComeDown wave.tree old e.node c.args.worker)

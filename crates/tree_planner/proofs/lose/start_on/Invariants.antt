@@ -1,7 +1,7 @@
-use Rattle.std.proofs.Common.{ℕ, ◌<◌, Some}
+use Rattle.std.proofs.Common.{ℕ, ◌<◌, get_or}
 use Rattle.std.specs.Prelude.{◌≢◌}
-use Rattle.wave_problem.specs.Assignment.{start_of}
+use Rattle.tree_planner.proofs.Paired.{no_pair}
 use Rattle.tree_planner.proofs.lose.start_on.Given as goal
 
-abbrev pub invariant-loop-s : goal.invariant-loop-s
-invariant-loop-s l = (k : ℕ) → k < l.s → start_of l.starts k ≢ Some l.worker
+abbrev pub invariant-loop-pair : goal.invariant-loop-pair
+invariant-loop-pair l = (k : ℕ) → k < l.pair-index → (get_or l.pairs k no_pair).1 ≢ l.worker
