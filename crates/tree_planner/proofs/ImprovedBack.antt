@@ -1,6 +1,7 @@
 -- What stays where nodes come nearer in a search back.
-use Rattle.std.proofs.Common.{◌≡◌, ℕ, ◌+◌, ◌<◌, ◌≤◌, refl, sym, ap, ◌∙◌, subst, inl, inr, arith}
-use Rattle.std.specs.Prelude.{◌≢◌}
+use Rattle.std.proofs.Common.{◌≡◌, ℕ, ◌+◌, ◌^◌, ◌<◌, ◌≤◌, length, refl, sym, ap, ◌∙◌, subst, inl, inr, arith}
+use Rattle.std.specs.Prelude.{◌≢◌, vec_capacity, Vec}
+use Rattle.std.specs.declared.alloc.Global.{Global}
 use Rattle.std.proofs.lemmas.Bool.{cases_lt}
 use Rattle.tree_flow.specs.declared.node_table.NodeTable.{NodeTable}
 use Rattle.tree_flow.specs.declared.nodes.End.{End}
@@ -11,7 +12,8 @@ use Rattle.tree_planner.specs.declared.back.Hollow.{Hollow}
 use Rattle.tree_planner.specs.declared.back.SearchBack.{SearchBack}
 use Rattle.tree_planner.specs.declared.back.StepBack.{StepBack}
 use Rattle.tree_planner.specs.declared.back.StepBack.TheVariants.{Start, Rise, Sink, Over}
-use Rattle.tree_flow.specs.Nodes.{parent}
+use Rattle.tree_flow.specs.Nodes.{parent, IsNode}
+use Rattle.tree_planner.specs.Reaching.{IsAdded}
 use Rattle.tree_planner.specs.SearchingBack.{order_at, far_at, step_at, wave_of, AreInto, EndsIn}
 use Rattle.tree_planner.specs.SearchingBack.{HasLookedFrom}
 use Rattle.tree_planner.specs.SearchingBack.{Improves, IsAt, IsBefore, IsDown, IsInto, IsNearer, IsNearest}
@@ -19,11 +21,11 @@ use Rattle.tree_planner.specs.SearchingBack.{IsSearching, LeadsTo}
 use Rattle.tree_planner.specs.SearchingBack.{Settles}
 use Rattle.tree_flow.specs.Table.{at_or, IsOver}
 use Rattle.tree_flow.proofs.Moved.{same_or_not}
+use Rattle.tree_planner.proofs.Rowed.{row_noted, row_short}
 
 pub improves_refl : (s : SearchBack) → Improves s s
 improves_refl s = record {
   nearer = record {
-    limit = refl;
     bound = omega arith;
     far = λ v. omega arith;
     settled = λ u l. refl;
@@ -31,6 +33,14 @@ improves_refl s = record {
   looked = refl;
   order = refl;
 }
+
+-- there is room for a node that was not come to
+pub room_left : (h : Hollow) (s : SearchBack) → IsSearching h s → (v : TreeNode) → IsNode (wave_of h).tree v
+    → 2 ^ 60 ≤ far_at s v → length s.reached.items < vec_capacity s.reached
+room_left h s searching v known past =
+    let short = row_short (wave_of h).tree (far_at s) s.reached.items searching.reached.row v known past in
+    let room = searching.tables.room in
+    omega arith
 
 pub same_order : (old new : SearchBack) → Improves old new → (v : TreeNode) → order_at new v ≡ order_at old v
 same_order old new i v = ap (λ (t : NodeTable ℕ). at_or t 0 v) i.order
@@ -68,16 +78,14 @@ module _ (old new : SearchBack) (i : IsNearer old new)
   pub ends_kept : (h : Hollow) (bound : ℕ) (goal : Rest) → EndsIn h old bound goal → EndsIn h new bound goal
   ends_kept h bound (Free v) e = record {
     known = e.known;
-    reached = (let same = i.settled v e.settled in let limit = i.limit in let near = e.reached in omega
-        arith);
+    reached = (let same = i.settled v e.settled in let near = e.reached in omega arith);
     settled = some_kept v e.settled;
     near = (let same = i.settled v e.settled in let near = e.near in omega arith);
   }
   ends_kept h bound (Join t to) e = record {
     waits = e.waits;
     is_end = e.is_end;
-    reached = (let same = i.settled to.node e.settled in let limit = i.limit in let near = e.reached in
-        omega arith);
+    reached = (let same = i.settled to.node e.settled in let near = e.reached in omega arith);
     settled = some_kept to.node e.settled;
     near = (let same = i.settled to.node e.settled in let near = e.near in omega arith);
   }
@@ -146,9 +154,7 @@ module _ (old new : SearchBack) (i : Improves old new) where
   pub at_kept : (c : TreeNode) → IsAt old c → IsAt new c
   at_kept c at = record {
     settled = (let one = same_order old new i c in let some = at.settled in omega arith);
-    reached =
-        (let same = i.nearer.settled c at.settled in let limit = i.nearer.limit in let near = at.reached in
-        omega arith);
+    reached = (let same = i.nearer.settled c at.settled in let near = at.reached in omega arith);
     last = λ u some.
         (let order = same_order old new i u in
         let before : 0 < order_at old u = omega arith in
@@ -161,7 +167,6 @@ module _ (old new : SearchBack) (i : Improves old new) where
 pub improves_trans : (a b c : SearchBack) → Improves a b → Improves b c → Improves a c
 improves_trans a b c i j = record {
   nearer = record {
-    limit = j.nearer.limit ∙ i.nearer.limit;
     bound = (let one = i.nearer.bound in let two = j.nearer.bound in omega arith);
     far = λ v. (let one = i.nearer.far v in let two = j.nearer.far v in omega arith);
     settled = λ u some.
@@ -181,9 +186,11 @@ module _ (old : SearchBack) (far : NodeTable ℕ) (how : NodeTable StepBack) (no
     (here : (d : ℕ) → at_or far d node ≡ distance)
     (others : (d : ℕ) (v : TreeNode) → v ≢ node → at_or far d v ≡ at_or old.far d v)
     (how_here : (d : StepBack) → at_or how d node ≡ step)
-    (how_others : (d : StepBack) (v : TreeNode) → v ≢ node → at_or how d v ≡ at_or old.how d v) where
+    (how_others : (d : StepBack) (v : TreeNode) → v ≢ node → at_or how d v ≡ at_or old.how d v)
+    (row : Vec TreeNode Global) (added : IsAdded old.reached.items row.items node (far_at old node))
+    (room : vec_capacity row ≡ vec_capacity old.reached) where
   abbrev reached : SearchBack
-  reached = record old { far = far; how = how }
+  reached = record old { far = far; how = how; reached = row }
 
   is_open : order_at old node ≡ 0
   is_open = elim (cases_lt 0 (order_at old node)) [
@@ -193,43 +200,49 @@ module _ (old : SearchBack) (far : NodeTable ℕ) (how : NodeTable StepBack) (no
 
   reach_nearer : IsNearer old reached
   reach_nearer = record {
-    limit = refl;
     bound = omega arith;
     far = λ v. elim (same_or_not v node) [
       | inl e ↦
-          (let now = here old.limit in
+          (let now = here (2 ^ 60) in
           let a = ap (far_at reached) e in
           let b = ap (far_at old) e in
           omega arith)
-      | inr n ↦ (let same = others old.limit v n in omega arith)
+      | inr n ↦ (let same = others (2 ^ 60) v n in omega arith)
     ];
-    settled = λ u some. others old.limit u (λ e. (let none = is_open in
+    settled = λ u some. others (2 ^ 60) u (λ e. (let none = is_open in
         let a = ap (order_at old) e in omega arith));
   }
 
   pub reach_improves : Improves old reached
   reach_improves = record { nearer = reach_nearer; looked = refl; order = refl }
 
-  pub reach_kept : (h : Hollow) → IsOver (wave_of h).tree far → IsOver (wave_of h).tree how
-      → IsSearching h old
+  pub reach_kept : (h : Hollow) → IsNode (wave_of h).tree node → IsOver (wave_of h).tree far
+      → IsOver (wave_of h).tree how → IsSearching h old
       → (order_at old node ≡ 0 → LeadsTo h old node distance step) → IsSearching h reached
-  reach_kept h over_far over_how s leads = record {
-    far = over_far;
-    how = over_how;
-    order = s.order;
-    limit = s.limit;
+  reach_kept h known over_far over_how s leads = record {
+    tables = record {
+      far = over_far;
+      how = over_how;
+      order = s.tables.order;
+      room = (let all = s.tables.room in let same = room in omega arith);
+    };
+    reached = record {
+      row = row_noted (wave_of h).tree (far_at old) (far_at reached) node
+          (let now = here (2 ^ 60) in let most = s.bound in omega arith) (others (2 ^ 60)) old.reached.items row.items s.reached.row known added;
+      looked = λ v some. (let less = reach_nearer.far v in let near = s.reached.looked v some in omega arith);
+    };
     bound = s.bound;
     most = λ v. (let less = reach_nearer.far v in let most = s.most v in omega arith);
     few = s.few;
     start = (let less = reach_nearer.far h.hole in let start = s.start in omega arith);
     steps = λ v less. elim (same_or_not v node) [
       | inl e ↦ subst (λ v. LeadsTo h reached v (far_at reached v) (step_at reached v)) (sym e)
-          (subst (λ d. LeadsTo h reached node d (step_at reached node)) (sym (here old.limit))
+          (subst (λ d. LeadsTo h reached node d (step_at reached node)) (sym (here (2 ^ 60)))
           (subst (λ st. LeadsTo h reached node distance st) (sym (how_here Start))
           (leads_kept old reached reach_nearer (λ u x b. b) (λ u some. some) h node distance step
           (leads is_open))))
       | inr n ↦
-          (let same = others old.limit v n in
+          (let same = others (2 ^ 60) v n in
           subst (λ d. LeadsTo h reached v d (step_at reached v)) (sym same)
           (subst (λ st. LeadsTo h reached v (far_at old v) st) (sym (how_others Start v n))
           (leads_kept old reached reach_nearer (λ u x b. b) (λ u some. some) h v (far_at old v)
@@ -239,11 +252,11 @@ module _ (old : SearchBack) (far : NodeTable ℕ) (how : NodeTable StepBack) (no
         (let one = reach_nearer.settled u some in
         elim (same_or_not v node) [
           | inl e ↦
-              (let now = here old.limit in
+              (let now = here (2 ^ 60) in
               let a = ap (far_at reached) e in
               let past = beyond u some in
               omega arith)
-          | inr n ↦ (let same = others old.limit v n in let level = s.level u v some none in omega arith)
+          | inr n ↦ (let same = others (2 ^ 60) v n in let level = s.level u v some none in omega arith)
         ]);
     goal = λ less. ends_kept old reached reach_nearer (λ u x b. b) (λ u some. some) h old.bound old.goal
         (s.goal less);
@@ -256,7 +269,6 @@ module _ (old : SearchBack) (goal : Rest) (distance : ℕ) (bound : distance < o
 
   arrive_nearer : IsNearer old arrived
   arrive_nearer = record {
-    limit = refl;
     bound = omega arith;
     far = λ v. omega arith;
     settled = λ u some. refl;
@@ -267,10 +279,8 @@ module _ (old : SearchBack) (goal : Rest) (distance : ℕ) (bound : distance < o
 
   pub arrive_kept : (h : Hollow) → IsSearching h old → EndsIn h old distance goal → IsSearching h arrived
   arrive_kept h s ends = record {
-    far = s.far;
-    how = s.how;
-    order = s.order;
-    limit = s.limit;
+    tables = record { far = s.tables.far; how = s.tables.how; order = s.tables.order; room = s.tables.room };
+    reached = record { row = s.reached.row; looked = s.reached.looked };
     bound = (let most = s.bound in omega arith);
     most = s.most;
     few = s.few;
@@ -291,7 +301,6 @@ module _ (h : Hollow) (old : SearchBack) (order : NodeTable ℕ) (c : TreeNode) 
 
   settle_nearer : IsNearer old settled
   settle_nearer = record {
-    limit = refl;
     bound = omega arith;
     far = λ v. omega arith;
     settled = λ u some. refl;
@@ -333,10 +342,18 @@ module _ (h : Hollow) (old : SearchBack) (order : NodeTable ℕ) (c : TreeNode) 
 
   pub settle_kept : IsSearching h settled
   settle_kept = record {
-    far = s.far;
-    how = s.how;
-    order = over;
-    limit = s.limit;
+    tables = record { far = s.tables.far; how = s.tables.how; order = over; room = s.tables.room };
+    reached = record {
+      row = s.reached.row;
+      looked = λ v some. elim (same_or_not v c) [
+        | inl e ↦
+            (let a = ap (far_at old) e in
+            let near = nearest.near in
+            let most = s.bound in
+            omega arith)
+        | inr n ↦ (let same = others v n in s.reached.looked v (omega arith))
+      ];
+    };
     bound = s.bound;
     most = s.most;
     few = λ v. elim (same_or_not v c) [
@@ -363,7 +380,6 @@ module _ (h : Hollow) (old : SearchBack) (order : NodeTable ℕ) (c : TreeNode) 
   pub settles_then : (new : SearchBack) → Improves settled new → Settles old new c
   settles_then new i = record {
     nearer = record {
-      limit = i.nearer.limit;
       bound = i.nearer.bound;
       far = i.nearer.far;
       settled = λ u some. i.nearer.settled u (some_next u some);

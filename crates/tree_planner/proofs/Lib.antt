@@ -5,10 +5,12 @@ pub mod Added
 pub mod Improved
 pub mod Counted
 pub mod Room
+pub mod Rowed
 pub mod Begun
 pub mod Looked
 pub mod Tight
 pub mod Followed
+pub mod Changed
 pub mod Deeper
 pub mod Known
 pub mod Barred

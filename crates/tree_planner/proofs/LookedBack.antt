@@ -1,21 +1,21 @@
 -- A node from which all steps of a hole were taken.
-use Rattle.std.proofs.Common.{◌≡◌, ℕ, ◌+◌, ◌<◌, ◌≤◌, min, List, Contains, Option, Some, None, sym, ap, subst}
+use Rattle.std.proofs.Common.{◌≡◌, ℕ, ◌+◌, ◌^◌, ◌<◌, ◌≤◌, min, List, length, Contains, Option, Some, None, sym, ap, subst}
 use Rattle.std.proofs.Common.{count_by, inl, inr, arith}
 use Rattle.std.specs.Prelude.{◌≢◌, ◌==◌, MatchOption}
-use Rattle.std.proofs.lemmas.Bool.{eq-eqb, ne_eqb}
+use Rattle.std.proofs.lemmas.Bool.{cases_lt, eq-eqb, ne_eqb}
 use Rattle.tree_flow.specs.declared.nodes.TreeNode.{TreeNode}
 use Rattle.tree_planner.specs.declared.back.Hollow.{Hollow}
 use Rattle.tree_planner.specs.declared.back.SearchBack.{SearchBack}
-use Rattle.tree_flow.specs.Nodes.{parent, IsNode}
+use Rattle.tree_flow.specs.Nodes.{parent}
 use Rattle.tree_flow.specs.State.{slots_of, sum_under}
 use Rattle.tree_planner.specs.SearchingBack.{order_at, far_at, far_of, state_at, wave_of, AreInto}
 use Rattle.tree_planner.specs.SearchingBack.{HasLookedFrom, Improves, IsHollow}
+use Rattle.tree_planner.specs.Reaching.{node_in}
 use Rattle.tree_planner.specs.SearchingBack.{IsAt, IsDown, IsFresh, IsNearest, IsSearching, Settles}
 use Rattle.tree_flow.specs.Table.{IsOver}
 use Rattle.tree_planner.proofs.Counted.{count_less}
 use Rattle.tree_planner.proofs.ImprovedBack.{improves_trans, some_same, down_kept, settle_kept, settle_at}
 use Rattle.tree_planner.proofs.ImprovedBack.{settles_then}
-use Rattle.tree_planner.proofs.Looked.{known_or_not}
 
 -- how many nodes a search back has not looked from
 abbrev pub open_count : SearchBack → List TreeNode → ℕ
@@ -30,27 +30,30 @@ open_less old new nodes c among was now others =
     count_less (λ v. order_at old v == 0) (λ v. order_at new v == 0) c (eq-eqb (order_at old c) 0 was)
     (ne_eqb (order_at new c) 0 (λ e. omega arith)) (λ v n. ap (λ (k : ℕ). k == 0) (others v n)) nodes among
 
--- the nearest of the nodes of a list that were not looked from is the nearest of all
+-- the nearest of the nodes of the row that were not looked from is the nearest of all
 pub found_nearest : (h : Hollow) (search : SearchBack) (best : Option TreeNode) → IsSearching h search
     → IsFresh h search best
-    → ((v : TreeNode) → IsNode (wave_of h).tree v → order_at search v ≡ 0 → far_of search best ≤ far_at
-    search v)
+    → ((k : ℕ) → k < length search.reached.items → order_at search (node_in search.reached.items k) ≡ 0
+    → far_of search best ≤ far_at search (node_in search.reached.items k))
     → MatchOption best ((v : TreeNode) → order_at search v ≡ 0 → search.bound ≤ far_at search v)
     (λ c. IsNearest h search c)
-found_nearest h search None s is seen = λ v none. elim
-    (known_or_not (wave_of h).tree search.far search.limit s.far v) [
-      | inl known ↦ seen v known none
-      | inr past ↦ (let most = s.bound in omega arith)
-    ]
-found_nearest h search (Some c) s is seen = record {
-  known = is.0;
-  fresh = is.1;
-  near = is.2;
-  least = λ v none. elim (known_or_not (wave_of h).tree search.far search.limit s.far v) [
-    | inl known ↦ seen v known none
-    | inr past ↦ (let most = s.bound in let a = is.2 in omega arith)
-  ];
-}
+found_nearest h search best s is seen = found best is (λ v none. elim (cases_lt (far_at search v) (2 ^ 60)) [
+  | inl near ↦
+      (let at = s.reached.row.placed v near in
+      subst (λ v. order_at search v ≡ 0 → far_of search best ≤ far_at search v) at.2 (seen at.0 at.1) none)
+  | inr past ↦ (let most = near_most best is in let bound = s.bound in omega arith)
+])
+  where
+    near_most : (best : Option TreeNode) → IsFresh h search best → far_of search best ≤ search.bound
+    near_most None is = omega arith
+    near_most (Some c) is = (let near = is.2 in omega arith)
+
+    found : (best : Option TreeNode) → IsFresh h search best
+        → ((v : TreeNode) → order_at search v ≡ 0 → far_of search best ≤ far_at search v)
+        → MatchOption best ((v : TreeNode) → order_at search v ≡ 0 → search.bound ≤ far_at search v)
+        (λ c. IsNearest h search c)
+    found None is least = least
+    found (Some c) is least = record { known = is.0; fresh = is.1; near = is.2; least = least }
 
 -- the node that is looked from next
 pub settle_all : (h : Hollow) (old mid : SearchBack) (c : TreeNode) → IsSearching h old → IsNearest h old c

@@ -1,5 +1,5 @@
 -- Along the way of a hole that a search back found no step costs anything once the depths have fallen.
-use Rattle.std.proofs.Common.{◌≡◌, ℕ, ◌-◌, ◌<◌, ◌≤◌, Some, sym, ap, ◌∙◌, subst, inl, inr, arith}
+use Rattle.std.proofs.Common.{◌≡◌, ℕ, ◌-◌, ◌^◌, ◌<◌, ◌≤◌, Some, sym, ap, ◌∙◌, subst, inl, inr, arith}
 use Rattle.wave_problem.specs.Wave.{Wave}
 use Rattle.tree_flow.specs.declared.nodes.End.{End}
 use Rattle.tree_flow.specs.declared.nodes.TreeNode.{TreeNode}
@@ -39,12 +39,12 @@ module _ (h : Hollow) (hollow : IsHollow h) (search : SearchBack) (s : IsSearche
   distances = search_back_ends wave state (λ v. far_at search v) bound (Some h.hole) kept s.looked
 
   -- the hole could stay where it is
-  ends : bound < search.limit
+  ends : bound < 2 ^ 60
   ends =
       (let low = distances.low h.hole in
       let start = s.searching.start in
       let most = hollow.standing.low h.hole in
-      let limit = s.searching.limit in
+      let small = hollow.fixed.small in
       omega arith)
 
   module _ (new : State) (terms : new.terms ≡ state.terms) (places : new.places ≡ state.places)

@@ -1,6 +1,10 @@
 -- The row of the nodes that a search has come to.
-use Rattle.std.specs.Prelude.{ℕ, ◌≡◌, ◌≢◌, ◌+◌, ◌*◌, ◌/◌, ◌^◌, ◌<◌, ◌≤◌, length, slice_index_or, slice_set}
+use Rattle.std.specs.Prelude.{ℕ, zero, suc, ◌≡◌, ◌≢◌, ◌+◌, ◌*◌, ◌/◌, ◌^◌, ◌<◌, ◌≤◌, [], ◌∷◌, ◌++◌, List, length}
+use Rattle.std.specs.Prelude.{Bool, count_by, nat_lt, slice_index_or, slice_set}
+use Rattle.rack_tree.specs.Tree.{Tree}
 use Rattle.tree_flow.specs.declared.nodes.TreeNode.{TreeNode}
+use Rattle.tree_flow.specs.declared.nodes.TreeNode.TheVariants.{Centre, Cluster, Rack, Worker}
+use Rattle.tree_flow.specs.Nodes.{IsNode}
 use Rattle.tree_flow.specs.Table.{at_node, HasNode, IsSized}
 use Rattle.tree_planner.specs.declared.reached.LowBlock.{LowBlock}
 use Rattle.tree_planner.specs.declared.reached.Reached.{Reached}
@@ -44,3 +48,42 @@ pub record IsLowest (row : Reached) (low : LowBlock) (below : ℕ) : Type 0 wher
   pub most : low.next ≤ below
   pub least : (block : ℕ) → block * 32 < row.count → low.floor ≤ floor_in row block
   pub next : (block : ℕ) → block * 32 < row.count → block ≢ low.block → low.next ≤ floor_in row block
+
+-- the nodes of the numbers below n, before others
+abbrev pub numbered : (ℕ → TreeNode) → ℕ → List TreeNode → List TreeNode
+numbered node zero others = others
+numbered node (suc n) others = node n ∷ numbered node n others
+
+-- all nodes of a tree
+abbrev pub all_of : Tree → List TreeNode
+all_of tree = numbered Worker (length tree.rack_of)
+    (numbered Rack (length tree.centre_of) (numbered Centre tree.centres (Cluster ∷ [])))
+
+-- how many they are
+abbrev pub node_count : Tree → ℕ
+node_count tree = length tree.rack_of + length tree.centre_of + tree.centres + 1
+
+-- whether a node is nearer than 2 ^ 60, which is farther than any way goes
+abbrev pub is_reached : (TreeNode → ℕ) → TreeNode → Bool
+is_reached far v = nat_lt (far v) (2 ^ 60)
+
+-- the node in a row that stands after k others
+abbrev pub node_in : List TreeNode → ℕ → TreeNode
+node_in row k = slice_index_or row k (Worker 0)
+
+-- a node stands in a row
+abbrev pub StandsIn : List TreeNode → TreeNode → Type 0
+StandsIn row v = (k : ℕ) × (k < length row) × (node_in row k ≡ v)
+
+-- the nodes that a search has come to stand in a row, each once, and no other node does
+pub record IsRow (tree : Tree) (far : TreeNode → ℕ) (row : List TreeNode) : Type 0 where
+  pub known : (k : ℕ) → k < length row → IsNode tree (node_in row k)
+  pub near : (k : ℕ) → k < length row → far (node_in row k) < 2 ^ 60
+  pub once : (j k : ℕ) → j < k → k < length row → node_in row j ≢ node_in row k
+  pub placed : (v : TreeNode) → far v < 2 ^ 60 → StandsIn row v
+  pub fit : length row ≤ count_by (is_reached far) (all_of tree)
+
+-- a node that was so far away before comes last in the row, unless it stands there already
+pub record IsAdded (old new : List TreeNode) (v : TreeNode) (before : ℕ) : Type 0 where
+  pub fresh : 2 ^ 60 ≤ before → new ≡ old ++ v ∷ []
+  pub same : before < 2 ^ 60 → new ≡ old

@@ -1,8 +1,9 @@
 -- What a search back from a hole keeps to, and what it finds: to which nodes the hole can move, and at what
 -- cost.
-use Rattle.std.specs.Prelude.{ℕ, ◌≡◌, ◌≢◌, ◌+◌, ◌<◌, ◌≤◌, ◌⊎◌, min, Option, Some, None, MatchOption}
+use Rattle.std.specs.Prelude.{ℕ, ◌≡◌, ◌≢◌, ◌+◌, ◌^◌, ◌<◌, ◌≤◌, ◌⊎◌, min, Option, Some, None, MatchOption}
+use Rattle.std.specs.Prelude.{[], vec_capacity}
 use Rattle.rack_tree.specs.Tree.{Tree}
-use Rattle.wave_problem.specs.Wave.{Wave, reward}
+use Rattle.wave_problem.specs.Wave.{Wave}
 use Rattle.tree_flow.specs.declared.nodes.End.{End}
 use Rattle.tree_flow.specs.declared.nodes.Place.TheVariants.{Stands, Waits}
 use Rattle.tree_flow.specs.declared.nodes.TreeNode.{TreeNode}
@@ -14,6 +15,7 @@ use Rattle.tree_planner.specs.declared.back.SearchBack.{SearchBack}
 use Rattle.tree_planner.specs.declared.back.StepBack.{StepBack}
 use Rattle.tree_planner.specs.declared.back.StepBack.TheVariants.{Start, Rise, Sink, Over}
 use Rattle.tree_planner.specs.Engine.{IsFixed, IsStandingBut}
+use Rattle.tree_planner.specs.Reaching.{node_count, IsRow}
 use Rattle.tree_flow.specs.Moves.{IsLookedTo}
 use Rattle.tree_flow.specs.Nodes.{parent, IsEnd, IsNode}
 use Rattle.tree_flow.specs.State.{State, place_of, reach_cost, slots_of, sum_under}
@@ -32,9 +34,9 @@ pub record IsHollow (h : Hollow) : Type 0 where
   pub known : IsNode (wave_of h).tree h.hole
   pub standing : IsStandingBut (wave_of h) h.tables.now (Some h.hole)
 
--- how far a node is at most: as the search came to it, or as far as it may go
+-- how far a node is at most: as the search came to it, or 2 ^ 60, which is farther than any way goes
 abbrev pub far_at : SearchBack → TreeNode → ℕ
-far_at search v = at_or search.far search.limit v
+far_at search v = at_or search.far (2 ^ 60) v
 
 -- as which one it was looked from, from 1, or 0 if it was not yet
 abbrev pub order_at : SearchBack → TreeNode → ℕ
@@ -88,7 +90,7 @@ LeadsTo h search x distance (Over t to) = GoesOver h search x distance t to
 -- units stay where they are, and a slot under the node becomes free, at no more than the bound
 pub record EndsFree (h : Hollow) (search : SearchBack) (bound : ℕ) (v : TreeNode) : Type 0 where
   pub known : IsNode (wave_of h).tree v
-  pub reached : far_at search v < search.limit
+  pub reached : far_at search v < 2 ^ 60
   pub settled : 0 < order_at search v
   pub near : far_at search v + (state_at h).depth v ≤ bound
 
@@ -96,7 +98,7 @@ pub record EndsFree (h : Hollow) (search : SearchBack) (bound : ℕ) (v : TreeNo
 pub record EndsJoined (h : Hollow) (search : SearchBack) (bound t : ℕ) (to : End) : Type 0 where
   pub waits : place_of (state_at h) t ≡ Waits
   pub is_end : IsEnd (wave_of h) t to
-  pub reached : far_at search to.node < search.limit
+  pub reached : far_at search to.node < 2 ^ 60
   pub settled : 0 < order_at search to.node
   pub near : far_at search to.node + reach_cost (wave_of h) (state_at h) t to
       ≤ bound + (state_at h).terms.worth
@@ -106,38 +108,44 @@ abbrev pub EndsIn : Hollow → SearchBack → ℕ → Rest → Type 0
 EndsIn h search bound (Free v) = EndsFree h search bound v
 EndsIn h search bound (Join t to) = EndsJoined h search bound t to
 
--- its tables have the nodes of the tree
+-- its tables have the nodes of the tree, and its row has room for all of them
 pub record HasTables (tree : Tree) (search : SearchBack) : Type 0 where
   pub far : IsOver tree search.far
   pub how : IsOver tree search.how
   pub order : IsOver tree search.order
+  pub room : node_count tree ≤ vec_capacity search.reached
 
--- a search back that has not come to any node yet
-pub record IsUnused (wave : Wave) (search : SearchBack) : Type 0 where
-  pub far : IsOver wave.tree search.far
-  pub how : IsOver wave.tree search.how
-  pub order : IsOver wave.tree search.order
-  pub limit : search.limit ≡ reward wave + 1
-  pub bound : search.bound ≡ search.limit
-  pub looked : search.looked ≡ 0
-  pub away : (v : TreeNode) → far_at search v ≡ search.limit
+-- a search back that has not come to any node
+pub record IsBlank (tree : Tree) (search : SearchBack) : Type 0 where
+  pub tables : HasTables tree search
+  pub row : search.reached.items ≡ []
+  pub away : (v : TreeNode) → far_at search v ≡ 2 ^ 60
   pub none : (v : TreeNode) → order_at search v ≡ 0
+
+-- and that may go as far as any way
+pub record IsUnused (wave : Wave) (search : SearchBack) : Type 0 where
+  pub blank : IsBlank wave.tree search
+  pub bound : search.bound ≡ 2 ^ 60
+  pub looked : search.looked ≡ 0
+
+-- the nodes that it has come to stand in its row, and it has looked from no other node
+pub record HasReached (tree : Tree) (search : SearchBack) : Type 0 where
+  pub row : IsRow tree (far_at search) search.reached.items
+  pub looked : (v : TreeNode) → 0 < order_at search v → far_at search v < 2 ^ 60
 
 -- what a search back keeps to
 pub record IsSearching (h : Hollow) (search : SearchBack) : Type 0 where
-  pub far : IsOver (wave_of h).tree search.far
-  pub how : IsOver (wave_of h).tree search.how
-  pub order : IsOver (wave_of h).tree search.order
-  pub limit : search.limit ≡ reward (wave_of h) + 1
-  pub bound : search.bound ≤ search.limit
-  pub most : (v : TreeNode) → far_at search v ≤ search.limit
+  pub tables : HasTables (wave_of h).tree search
+  pub reached : HasReached (wave_of h).tree search
+  pub bound : search.bound ≤ 2 ^ 60
+  pub most : (v : TreeNode) → far_at search v ≤ 2 ^ 60
   pub few : (v : TreeNode) → order_at search v ≤ search.looked
   pub start : far_at search h.hole ≡ 0
-  pub steps : (v : TreeNode) → far_at search v < search.limit
+  pub steps : (v : TreeNode) → far_at search v < 2 ^ 60
       → LeadsTo h search v (far_at search v) (step_at search v)
   pub level : (u v : TreeNode) → 0 < order_at search u → order_at search v ≡ 0
       → far_at search u ≤ far_at search v
-  pub goal : search.bound < search.limit → EndsIn h search search.bound search.goal
+  pub goal : search.bound < 2 ^ 60 → EndsIn h search search.bound search.goal
 
 -- the node has been looked from
 abbrev pub HasLookedFrom : Hollow → SearchBack → TreeNode → Type 0
@@ -145,7 +153,6 @@ HasLookedFrom h search u = IsLookedTo (wave_of h) (state_at h) (far_at search) s
 
 -- nodes that were not looked from may have come nearer, and the end
 pub record IsNearer (old new : SearchBack) : Type 0 where
-  pub limit : new.limit ≡ old.limit
   pub bound : new.bound ≤ old.bound
   pub far : (v : TreeNode) → far_at new v ≤ far_at old v
   pub settled : (u : TreeNode) → 0 < order_at old u → far_at new u ≡ far_at old u
@@ -159,7 +166,7 @@ pub record Improves (old new : SearchBack) : Type 0 where
 -- the search looks from this node, and no other that it has looked from is farther
 pub record IsAt (search : SearchBack) (c : TreeNode) : Type 0 where
   pub settled : 0 < order_at search c
-  pub reached : far_at search c < search.limit
+  pub reached : far_at search c < 2 ^ 60
   pub last : (u : TreeNode) → 0 < order_at search u → far_at search u ≤ far_at search c
 
 -- what a search back finds: it has looked from each node nearer than the end

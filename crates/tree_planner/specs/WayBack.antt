@@ -1,13 +1,11 @@
 -- The way of a hole that a search back found, along which units are moved until it is filled.
-use Rattle.std.specs.Prelude.{ℕ, ◌≡◌, ◌≢◌, ◌-◌, ◌<◌, ◌≤◌, ◌↔◌, Some}
-use Rattle.rack_tree.specs.Tree.{Tree}
+use Rattle.std.specs.Prelude.{ℕ, ◌≡◌, ◌≢◌, ◌-◌, ◌^◌, ◌<◌, ◌≤◌, ◌↔◌, Some}
 use Rattle.wave_problem.specs.Wave.{Wave}
 use Rattle.tree_flow.specs.declared.node_table.NodeTable.{NodeTable}
 use Rattle.tree_flow.specs.declared.nodes.End.{End}
 use Rattle.tree_flow.specs.declared.nodes.Place.TheVariants.{Stands, Unshipped, Waits}
 use Rattle.tree_flow.specs.declared.nodes.TreeNode.{TreeNode}
 use Rattle.tree_flow.specs.declared.nodes.TreeNode.TheVariants.{Cluster}
-use Rattle.tree_planner.specs.declared.back.Hollow.{Hollow}
 use Rattle.tree_planner.specs.declared.back.Rest.{Rest}
 use Rattle.tree_planner.specs.declared.back.Rest.TheVariants.{Free, Join}
 use Rattle.tree_planner.specs.declared.back.SearchBack.{SearchBack}
@@ -15,29 +13,20 @@ use Rattle.tree_planner.specs.declared.back.StepBack.{StepBack}
 use Rattle.tree_planner.specs.declared.back.StepBack.TheVariants.{Start, Rise, Sink, Over}
 use Rattle.tree_flow.specs.Nodes.{parent, IsEnd, IsNode}
 use Rattle.tree_flow.specs.State.{State, place_of, reach_cost, IsKeptBut}
-use Rattle.tree_flow.specs.Table.{at_node, IsOver}
-use Rattle.tree_planner.specs.declared.tables.Tables.{Tables}
-use Rattle.tree_planner.specs.Engine.{with_depth}
-use Rattle.tree_planner.specs.View.{state_of}
-use Rattle.tree_planner.specs.declared.refill.Spare.{Spare}
-use Rattle.tree_planner.specs.SearchingBack.{far_at, order_at, state_at, step_at, HasTables}
+use Rattle.tree_flow.specs.Table.{at_node}
+use Rattle.tree_planner.specs.SearchingBack.{far_at, order_at, step_at}
 
--- what a search back is lent has the nodes of the tree
-pub record IsSpare (tree : Tree) (spare : Spare) : Type 0 where
-  pub search : HasTables tree spare.search
-  pub depth : IsOver tree spare.depth
+-- a node nearer than the bound lies higher by the rest than it did
+abbrev pub IsHigher : NodeTable ℕ → SearchBack → NodeTable ℕ → TreeNode → Type 0
+IsHigher old search new v = at_node new v ≡ at_node old v - (search.bound - far_at search v)
 
--- a node nearer than the bound lies higher by the rest
-abbrev pub IsHigher : Hollow → SearchBack → TreeNode → ℕ → Type 0
-IsHigher h search v depth = depth ≡ (state_at h).depth v - (search.bound - far_at search v)
-
-abbrev pub AreHigher : Hollow → SearchBack → NodeTable ℕ → Type 0
-AreHigher h search depth = (v : TreeNode) → IsHigher h search v (at_node depth v)
+abbrev pub AreHigher : NodeTable ℕ → SearchBack → NodeTable ℕ → Type 0
+AreHigher old search new = (v : TreeNode) → IsHigher old search new v
 
 -- the search has looked from the node, and a way over it may end at the bound
 pub record IsOnWay (search : SearchBack) (v : TreeNode) : Type 0 where
   pub settled : 0 < order_at search v
-  pub reached : far_at search v < search.limit
+  pub reached : far_at search v < 2 ^ 60
   pub near : far_at search v ≤ search.bound
 
 -- the steps to a node that cost nothing, from one that was looked from before
@@ -94,12 +83,6 @@ pub record IsReady (wave : Wave) (state : State) (search : SearchBack) : Type 0 
   pub kept : IsKeptBut wave state (Some search.hole)
   pub steps : (v : TreeNode) → IsOnWay search v → IsTight wave state search v (step_at search v)
   pub goal : IsTightRest wave state search search.goal
-
--- depths with which it is so, none of which is greater than before
-pub record AreReady (wave : Wave) (tables : Tables) (depth : NodeTable ℕ) (search : SearchBack) : Type 0 where
-  pub over : IsOver wave.tree depth
-  pub low : (v : TreeNode) → at_node depth v ≤ at_node tables.depth v
-  pub ready : IsReady wave (with_depth (state_of tables) depth) search
 
 -- the depth of one node has changed, and nothing else
 pub record IsDepthSet (old new : State) (c : TreeNode) (depth : ℕ) : Type 0 where

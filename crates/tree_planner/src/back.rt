@@ -1,5 +1,6 @@
 //! A search for the cheapest way to fill a hole: a slot under a node that nobody has.
 ghost use Rattle.std.specs.Prelude.{◌≡◌, ◌≢◌, ◌+◌, ◌*◌, ◌<◌, ◌≤◌, ◌^◌, min, ℕ, length, IfOk, MatchOption};
+ghost use Rattle.std.specs.Prelude.{vec_capacity};
 ghost use Rattle.tree_planner.specs.Ends.{ends_at, IsBarred, IsOf};
 ghost use Rattle.wave_problem.specs.declared.TheConstants.{MAX_BYTES};
 ghost use Rattle.wave_problem.specs.Wave.{reward};
@@ -13,12 +14,15 @@ ghost use Rattle.tree_planner.specs.Hanging.{HangsFrom};
 ghost use Rattle.tree_planner.specs.declared.back.Hollow.{Hollow};
 ghost use Rattle.tree_planner.specs.SearchingBack.{order_at, far_at, far_of, state_at, wave_of, AreInto};
 ghost use Rattle.tree_planner.specs.SearchingBack.{EndsIn};
-ghost use Rattle.tree_planner.specs.SearchingBack.{HasLookedFrom, HasTables, Improves, IsAt, IsDown, IsFresh};
+ghost use Rattle.tree_planner.specs.Reaching.{IsAdded};
+ghost use Rattle.tree_planner.specs.SearchingBack.{HasLookedFrom, HasReached, HasTables, Improves, IsAt, IsBlank};
+ghost use Rattle.tree_planner.specs.SearchingBack.{IsDown, IsFresh};
 ghost use Rattle.tree_planner.specs.SearchingBack.{IsHollow, IsInto};
 ghost use Rattle.tree_planner.specs.SearchingBack.{IsNearest, IsSearched, IsSearching, IsUnused, LeadsTo};
 ghost use Rattle.tree_planner.specs.SearchingBack.{Settles};
 
 use crate::engine::Fixed;
+use crate::reached::FAR;
 use crate::split_ends::{Ends, Group, is_left};
 use crate::tables::Tables;
 use crate::tree_nodes::{is_same, parent};
@@ -59,14 +63,15 @@ pub struct Hollow<'a> {
     pub hole: TreeNode,
 }
 
-/// From which node the hole starts, and how far it may go; how far each node is, how the hole comes to it, as
-/// which one it was looked from; and the nearest end of a way, and how far it is.
+/// From which node the hole starts; how far each node is, how the hole comes to it, as which one it was looked
+/// from; the nodes that were come to; and the nearest end of a way, and how far it is. Its tables serve one
+/// search after another: between two of them no node has been come to.
 pub struct SearchBack {
     pub hole: TreeNode,
-    pub limit: u64,
     pub far: NodeTable<u64>,
     pub how: NodeTable<StepBack>,
     pub order: NodeTable<u64>,
+    pub reached: Vec<TreeNode>,
     pub looked: u64,
     pub bound: u64,
     pub goal: Rest,
@@ -77,10 +82,10 @@ impl Drop for SearchBack {
     fn drop(self) {
         let SearchBack {
             hole: _,
-            limit: _,
             far: _,
             how: _,
             order: _,
+            reached: _,
             looked: _,
             bound: _,
             goal: _,
@@ -91,39 +96,49 @@ impl Drop for SearchBack {
 impl SearchBack {
     /// Room for searches back over a tree.
     pub fn new(alloc: Global, tree: &RackTree) -> Result<Self, AllocError>
-        ensures { IfOk result (λ search. HasTables tree.now search) }
+        ensures { IfOk result (λ search. IsBlank tree.now search) }
     {
-        let far = NodeTable::new(alloc, tree, 0)?;
+        let nodes = tree.workers() + tree.racks() + tree.centres() + 1;
+        let far = NodeTable::new(alloc, tree, FAR)?;
         let how = NodeTable::new(alloc, tree, StepBack::Start)?;
         let order = NodeTable::new(alloc, tree, 0)?;
         Ok(SearchBack {
             hole: TreeNode::Cluster,
-            limit: 0,
             far,
             how,
             order,
+            reached: Vec::with_capacity(alloc, nodes)?,
             looked: 0,
-            bound: 0,
+            bound: FAR,
             goal: Rest::Free(TreeNode::Cluster),
         })
     }
 
-    /// Forgets what was found, for a search from a node, where a start is worth so much.
-    pub fn begin(&mut self, problem: &Problem, worth: u64, hole: TreeNode)
-        requires tables { HasTables problem.now.tree self.old }
-        requires worth { worth ≡ reward problem.now }
-        requires small { worth < 2 ^ 54 }
+    /// Begins a search from a node.
+    pub fn begin(&mut self, problem: &Problem, hole: TreeNode)
+        requires { IsBlank problem.now.tree self.old }
         ensures hole { self.new.hole ≡ hole }
         ensures unused { IsUnused problem.now self.new }
     {
         let _ = problem;
         self.hole = hole;
-        self.limit = worth + 1;
-        self.far.fill(self.limit);
-        self.order.fill(0);
         self.looked = 0;
-        self.bound = self.limit;
+        self.bound = FAR;
         self.goal = Rest::Free(hole);
+    }
+
+    /// Forgets the nodes that were come to.
+    pub fn clear(&mut self, tree: &RackTree)
+        requires tables { HasTables tree.now self.old }
+        requires reached { HasReached tree.now self.old }
+        requires most { (v : TreeNode) → far_at self.old v ≤ 2 ^ 60 }
+        ensures { IsBlank tree.now self.new }
+    {
+        let _ = tree;
+        while let Some(node) = self.reached.pop() {
+            self.far.set(node, FAR);
+            self.order.set(node, 0);
+        }
     }
 
     // How far a node is.
@@ -138,14 +153,18 @@ impl SearchBack {
     fn reach(&mut self, node: TreeNode, distance: u64, step: StepBack)
         requires far { HasNode self.old.far node }
         requires how { HasNode self.old.how node }
+        requires room { 2 ^ 60 ≤ far_at self.old node
+            → length self.old.reached.items < vec_capacity self.old.reached }
         requires beyond { (u : TreeNode) → 0 < order_at self.old u → far_at self.old u ≤ distance }
         ensures hole { self.new.hole ≡ self.old.hole }
         ensures improves { Improves self.old self.new }
         ensures near { min self.new.bound (far_at self.new node) ≤ distance }
-        ensures kept { (h : Hollow) → IsSearching h self.old
+        ensures kept { (h : Hollow) → IsSearching h self.old → IsNode (wave_of h).tree node
             → (order_at self.old node ≡ 0 → LeadsTo h self.old node distance step) → IsSearching h self.new }
     {
-        if distance < self.bound && distance < self.far.get(node) {
+        let far = self.far.get(node);
+        if distance < self.bound && distance < far {
+            note(&mut self.reached, node, far);
             self.far.set(node, distance);
             self.how.set(node, step);
         }
@@ -176,6 +195,17 @@ impl SearchBack {
     {
         self.looked += 1;
         self.order.set(node, self.looked);
+    }
+}
+
+// Adds a node, which was so far, to a row of the nodes that were come to.
+fn note(row: &mut Vec<TreeNode>, node: TreeNode, far: u64)
+    requires { 2 ^ 60 ≤ far → length row.old.items < vec_capacity row.old }
+    ensures added { IsAdded row.old.items row.new.items node far }
+    ensures room { vec_capacity row.new ≡ vec_capacity row.old }
+{
+    if far >= FAR {
+        row.push_reserved(node);
     }
 }
 
@@ -265,10 +295,11 @@ fn start(hollow: &Hollow<'_>, search: &mut SearchBack)
     requires unused { IsUnused (wave_of hollow.now) search.old }
     ensures hole { search.new.hole ≡ search.old.hole }
     ensures looked { search.new.looked ≡ 0 }
-    ensures bound { search.new.bound ≡ search.new.limit }
+    ensures bound { search.new.bound ≡ 2 ^ 60 }
     ensures none { (v : TreeNode) → order_at search.new v ≡ 0 }
     ensures searching { IsSearching hollow.now search.new }
 {
+    note(&mut search.reached, search.hole, FAR);
     search.far.set(search.hole, 0);
     search.how.set(search.hole, StepBack::Start);
 }
@@ -280,7 +311,7 @@ fn run(hollow: &Hollow<'_>, search: &mut SearchBack)
     requires none { (v : TreeNode) → order_at search.old v ≡ 0 }
     requires looked { search.old.looked ≡ 0 }
     requires hole { search.old.hole ≡ hollow.now.hole }
-    requires bound { search.old.bound ≡ search.old.limit }
+    requires bound { search.old.bound ≡ 2 ^ 60 }
     ensures hole { search.new.hole ≡ search.old.hole }
     ensures searched { IsSearched hollow.now search.new }
 {
@@ -317,8 +348,9 @@ fn nearest(hollow: &Hollow<'_>, search: &SearchBack) -> Option<TreeNode>
         ((v : TreeNode) → order_at search.now v ≡ 0 → search.now.bound ≤ far_at search.now v)
         (λ node. IsNearest hollow.now search.now node) }
 {
+    let _ = hollow;
     let mut best = None;
-    for node in &hollow.fixed.nodes {
+    for node in &search.reached {
         best = nearer(search, best, *node);
     }
     best

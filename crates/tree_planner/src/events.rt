@@ -17,11 +17,13 @@ ghost use Rattle.tree_planner.specs.Ends.{HasEnd};
 ghost use Rattle.tree_planner.specs.Events.{slot_less, slot_more, started, with_pending};
 ghost use Rattle.tree_planner.specs.View.{state_of};
 ghost use Rattle.tree_planner.specs.Way.{AreOthersSame};
-ghost use Rattle.tree_planner.specs.WayBack.{AreAllSame, IsSpare};
+ghost use Rattle.tree_planner.specs.SearchingBack.{IsBlank};
+ghost use Rattle.tree_planner.specs.WayBack.{AreAllSame};
 
+use crate::back::SearchBack;
 use crate::engine::{Fixed, ship_rest};
 use crate::follow::{place, stood_at};
-use crate::refill::{Spare, deepen, fill, sink};
+use crate::refill::{deepen, fill, sink};
 use crate::split_ends::OwnEnds;
 use crate::tables::{Tables, add_above, one_less_above};
 use crate::tree_nodes::node_above;
@@ -60,12 +62,12 @@ pub fn free(
     problem: &mut Problem,
     fixed: &mut Fixed,
     tables: &mut Tables,
-    spare: &mut Spare,
+    search: &mut SearchBack,
     worker: WorkerNo,
 )
     requires fixed { IsFixed problem.old fixed.old }
     requires standing { IsStanding problem.old tables.old }
-    requires spare { IsSpare problem.old.tree spare.old }
+    requires blank { IsBlank problem.old.tree search.old }
     requires worker { worker < length problem.old.workers }
     requires live { (worker_at problem.old worker).live ≡ true }
     requires room { (worker_at problem.old worker).free < MAX_SLOTS }
@@ -73,11 +75,11 @@ pub fn free(
     ensures fixed { IsFixed problem.new fixed.new }
     ensures standing { IsStanding problem.new tables.new }
     ensures unshipped { AreAllSame (state_of tables.old) (state_of tables.new) }
-    ensures spare { IsSpare problem.old.tree spare.new }
+    ensures blank { IsBlank problem.old.tree search.new }
 {
     let hole = TreeNode::Worker(worker.index() as u16);
     add_slot(problem, fixed, tables, worker);
-    fill(problem, fixed, tables, spare, hole);
+    fill(problem, fixed, tables, search, hole);
 }
 
 // Gives a worker one slot more, which nobody has yet.

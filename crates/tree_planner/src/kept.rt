@@ -15,13 +15,13 @@ ghost use Rattle.tree_planner.specs.Starting.{AreBestStarts};
 ghost use Rattle.tree_planner.specs.Way.{AreOthersSame};
 ghost use Rattle.wave_problem.specs.Assignment.{pairs_of, IsBest};
 
+use crate::back::SearchBack;
 use crate::engine::{Fixed, Found, fixed_parts, read_off, ship};
 use crate::events::{free, pass_over, pend, place_at, settle, start};
 use crate::follow::shorten_lists;
 use crate::hand_down::all_starts;
 use crate::like::is_like;
 use crate::lose::lose;
-use crate::refill::Spare;
 use crate::renewed::renew;
 use crate::search::Search;
 use crate::tables::{Tables, fresh_tables};
@@ -39,8 +39,8 @@ pub struct Engine {
     problem: Problem,
     fixed: Fixed,
     tables: Tables,
-    // (lent to each search back)
-    spare: Spare,
+    // (lent to each search back, blank before and after)
+    search_back: SearchBack,
     // (if so, each split is known to be shipped, or to wait)
     settled: bool,
 }
@@ -52,7 +52,7 @@ impl Drop for Engine {
             problem: _,
             fixed: _,
             tables: _,
-            spare: _,
+            search_back: _,
             settled: _,
         } = self;
     }
@@ -61,14 +61,14 @@ impl Drop for Engine {
 impl Model for Engine {
     ghost use Rattle.tree_planner.specs.Engine.{IsFixed, IsStanding};
     ghost use Rattle.tree_planner.specs.Shown.{AreShippedIf, Shown};
-    ghost use Rattle.tree_planner.specs.WayBack.{IsSpare};
+    ghost use Rattle.tree_planner.specs.SearchingBack.{IsBlank};
 
     ghost Value = { Shown };
 
     ghost view = { λ e. record { wave = e.problem; tables = e.tables } };
 
     ghost invariant = { λ e. IsFixed e.problem e.fixed × IsStanding e.problem e.tables
-        × IsSpare e.problem.tree e.spare × AreShippedIf e.settled e.problem e.tables };
+        × IsBlank e.problem.tree e.search_back × AreShippedIf e.settled e.problem e.tables };
 }
 
 impl Engine {
@@ -80,12 +80,12 @@ impl Engine {
     {
         let fixed = fixed_parts(alloc, &problem)?;
         let tables = fresh_tables(alloc, &problem, fixed.reward, PlacePrices::free(alloc))?;
-        let spare = Spare::new(alloc, problem.tree())?;
+        let search_back = SearchBack::new(alloc, problem.tree())?;
         Ok(Engine {
             problem,
             fixed,
             tables,
-            spare,
+            search_back,
             settled: false,
         })
     }
@@ -156,7 +156,7 @@ impl Engine {
             &mut self.problem,
             &mut self.fixed,
             &mut self.tables,
-            &mut self.spare,
+            &mut self.search_back,
             worker,
         );
         Ok(())

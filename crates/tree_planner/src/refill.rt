@@ -1,5 +1,5 @@
 //! A hole moved along the way that a search back found, until it is filled.
-ghost use Rattle.std.specs.Prelude.{◌≡◌, ◌≢◌, ◌+◌, ◌^◌, ◌<◌, ◌≤◌, ℕ, true, false, IfOk, Option, Some, length};
+ghost use Rattle.std.specs.Prelude.{◌≡◌, ◌≢◌, ◌+◌, ◌^◌, ◌<◌, ◌≤◌, ℕ, true, Option, Some, length};
 ghost use Rattle.tree_flow.specs.declared.nodes.Place.TheVariants.{Stands};
 ghost use Rattle.tree_flow.specs.declared.nodes.TreeNode.{TreeNode};
 ghost use Rattle.tree_flow.specs.declared.nodes.TreeNode.TheVariants.{Cluster, Worker};
@@ -7,10 +7,9 @@ ghost use Rattle.tree_flow.specs.Moves.{IsFlowSet, IsPlaced, IsTaken};
 ghost use Rattle.tree_flow.specs.Nodes.{is_under, parent, AreNodes, IsNode};
 ghost use Rattle.tree_flow.specs.Table.{at_node, IsOver};
 ghost use Rattle.tree_planner.specs.Engine.{with_depth, IsFixed, IsStanding, IsStandingBut};
-ghost use Rattle.tree_planner.specs.SearchingBack.{order_at, state_at, wave_of, IsHollow, IsSearched};
+ghost use Rattle.tree_planner.specs.SearchingBack.{far_at, order_at, HasReached, HasTables, IsBlank};
 ghost use Rattle.tree_planner.specs.View.{state_of, AreTables};
-ghost use Rattle.tree_planner.specs.WayBack.{AreAllSame, AreHigher, AreReady, HasMoved, IsDepthSet, IsHigher};
-ghost use Rattle.tree_planner.specs.WayBack.{IsOnWay, IsReady, IsSpare};
+ghost use Rattle.tree_planner.specs.WayBack.{AreAllSame, AreHigher, HasMoved, IsDepthSet, IsOnWay, IsReady};
 
 use crate::back::{Hollow, Rest, SearchBack, StepBack, find_rest};
 use crate::engine::Fixed;
@@ -18,80 +17,45 @@ use crate::follow::{place, set_flow};
 use crate::tables::{Tables, add_above};
 use crate::tree_nodes::parent;
 use node_ids::WorkerNo;
-use rack_tree::RackTree;
-use std::alloc::{AllocError, Global};
-use std::mem;
 use tree_flow::{End, NodeTable, Place, TreeNode};
 use wave_problem::Problem;
 
-/// What one search back after another is lent: its tables, and a table for the depths after it.
-pub struct Spare {
-    pub search: SearchBack,
-    pub depth: NodeTable<u64>,
-}
-
-// (one call wherever it is dropped)
-impl Drop for Spare {
-    fn drop(self) {
-        let Spare {
-            search: _,
-            depth: _,
-        } = self;
-    }
-}
-
-impl Spare {
-    /// Such tables of a tree.
-    pub fn new(alloc: Global, tree: &RackTree) -> Result<Spare, AllocError>
-        ensures { IfOk result (λ spare. IsSpare tree.now spare) }
-    {
-        let search = SearchBack::new(alloc, tree)?;
-        let depth = NodeTable::new(alloc, tree, 0)?;
-        Ok(Spare { search, depth })
-    }
-}
-
-/// Fills a hole as cheaply as can be: a split that waits takes the slot, or a slot of a worker becomes free.
-/// Nothing here needs memory.
+/// Fills a hole as cheaply as can be: a split that waits takes the slot, or a slot of a worker becomes free. The
+/// search for it is blank before and after. Nothing here needs memory.
 pub fn fill(
     problem: &Problem,
     fixed: &Fixed,
     tables: &mut Tables,
-    spare: &mut Spare,
+    search: &mut SearchBack,
     hole: TreeNode,
 )
     requires fixed { IsFixed problem.now fixed.now }
     requires standing { IsStandingBut problem.now tables.old (Some hole) }
     requires known { IsNode problem.now.tree hole }
-    requires spare { IsSpare problem.now.tree spare.old }
+    requires blank { IsBlank problem.now.tree search.old }
     ensures standing { IsStanding problem.now tables.new }
     ensures unshipped { AreAllSame (state_of tables.old) (state_of tables.new) }
-    ensures spare { IsSpare problem.now.tree spare.new }
+    ensures blank { IsBlank problem.now.tree search.new }
 {
-    problem.limits();
-    if find(problem, fixed, tables, spare, hole) {
-        mem::swap(&mut tables.depth, &mut spare.depth);
-    }
-    follow(problem, fixed, tables, &spare.search);
+    find(problem, fixed, tables, search, hole);
+    lift(problem, &mut tables.depth, search);
+    follow(problem, fixed, tables, search);
+    search.clear(problem.tree());
 }
 
-// Searches a cheapest way of the hole: whether it costs something with the present depths. Then it costs
-// nothing with the spare depths.
-fn find(
-    problem: &Problem,
-    fixed: &Fixed,
-    tables: &Tables,
-    spare: &mut Spare,
-    hole: TreeNode,
-) -> bool
+// Searches a cheapest way of the hole, which costs nothing once the nodes lie higher.
+fn find(problem: &Problem, fixed: &Fixed, tables: &Tables, search: &mut SearchBack, hole: TreeNode)
     requires fixed { IsFixed problem.now fixed.now }
     requires standing { IsStandingBut problem.now tables.now (Some hole) }
     requires known { IsNode problem.now.tree hole }
-    requires spare { IsSpare problem.now.tree spare.old }
-    ensures spare { IsSpare problem.now.tree spare.new }
-    ensures hole { spare.new.search.hole ≡ hole }
-    ensures ready { result ≡ false → IsReady problem.now (state_of tables.now) spare.new.search }
-    ensures higher { result ≡ true → AreReady problem.now tables.now spare.new.depth spare.new.search }
+    requires blank { IsBlank problem.now.tree search.old }
+    ensures hole { search.new.hole ≡ hole }
+    ensures tables { HasTables problem.now.tree search.new }
+    ensures reached { HasReached problem.now.tree search.new }
+    ensures most { (v : TreeNode) → far_at search.new v ≤ 2 ^ 60 }
+    ensures bound { search.new.bound ≤ 2 ^ 60 }
+    ensures ready { (depth : NodeTable ℕ) → AreHigher tables.now.depth search.new depth
+        → IsReady problem.now (with_depth (state_of tables.now) depth) search.new }
 {
     let hollow = Hollow {
         problem,
@@ -99,37 +63,24 @@ fn find(
         tables,
         hole,
     };
-    spare.search.begin(problem, fixed.reward, hole);
-    find_rest(&hollow, &mut spare.search);
-    if spare.search.bound == 0 {
-        return false;
-    }
-    lift(&hollow, &spare.search, &mut spare.depth);
-    true
+    search.begin(problem, hole);
+    find_rest(&hollow, search);
 }
 
-// The depths after a search back.
-fn lift(hollow: &Hollow<'_>, search: &SearchBack, depth: &mut NodeTable<u64>)
-    requires hollow { IsHollow hollow.now }
-    requires searched { IsSearched hollow.now search.now }
-    requires over { IsOver (wave_of hollow.now).tree depth.old }
-    ensures over { IsOver (wave_of hollow.now).tree depth.new }
-    ensures higher { AreHigher hollow.now search.now depth.new }
+// After a search back each node that is nearer than the end of the way lies higher by the rest.
+fn lift(problem: &Problem, depth: &mut NodeTable<u64>, search: &SearchBack)
+    requires over { IsOver problem.now.tree depth.old }
+    requires tables { HasTables problem.now.tree search.now }
+    requires reached { HasReached problem.now.tree search.now }
+    requires bound { search.now.bound ≤ 2 ^ 60 }
+    ensures over { IsOver problem.now.tree depth.new }
+    ensures higher { AreHigher depth.old search.now depth.new }
 {
-    for node in &hollow.fixed.nodes {
-        depth.set(*node, higher_at(hollow, search, *node));
+    let _ = problem;
+    for node in &search.reached {
+        let rest = search.bound.saturating_sub(search.far.get(*node));
+        depth.set(*node, depth.get(*node).saturating_sub(rest));
     }
-}
-
-// How deep a node lies after a search back.
-fn higher_at(hollow: &Hollow<'_>, search: &SearchBack, node: TreeNode) -> u64
-    requires hollow { IsHollow hollow.now }
-    requires searched { IsSearched hollow.now search.now }
-    requires known { IsNode (wave_of hollow.now).tree node }
-    ensures { IsHigher hollow.now search.now node result }
-{
-    let rest = search.bound.saturating_sub(search.far.get(node));
-    hollow.tables.depth.get(node).saturating_sub(rest)
 }
 
 // Moves the hole along the way that a search back found, and fills it where the way ends.

@@ -7,10 +7,11 @@ ghost use Rattle.tree_planner.specs.Events.{AreOtherEnds, ArePut, IsLike, IsOffI
 ghost use Rattle.tree_planner.specs.View.{state_of};
 ghost use Rattle.tree_planner.specs.Way.{AreOthersSame};
 
+use crate::back::SearchBack;
 use crate::engine::Fixed;
 use crate::events::{lay_off, place_at, take_off};
 use crate::like::has_same_ends;
-use crate::refill::{Spare, fill};
+use crate::refill::fill;
 use crate::split_ends::OwnEnds;
 use crate::tables::Tables;
 use node_ids::SplitNo;
@@ -180,8 +181,8 @@ fn withdraw_from(
     ensures unshipped { OnOk result (place_of (state_of tables.new) split ≡ Unshipped) }
     ensures others { AreOthersSame (state_of tables.old) (state_of tables.new) split }
 {
-    let mut spare = Spare::new(alloc, problem.tree())?;
+    let mut search = SearchBack::new(alloc, problem.tree())?;
     take_off(problem, tables, split, end);
-    fill(problem, fixed, tables, &mut spare, end.node);
+    fill(problem, fixed, tables, &mut search, end.node);
     Ok(())
 }

@@ -12,7 +12,7 @@ look_free-requires-clause-searching c =
     let old = c.args.search.now in
     let mid = c.settle.new.self in
     (settle_all h old mid c.args.node c.requires.searching c.requires.nearest c.settle.ensures.rest
-    (over_sized (wave_of h).tree old.order mid.order c.requires.searching.order c.settle.ensures.size)
+    (over_sized (wave_of h).tree old.order mid.order c.requires.searching.tables.order c.settle.ensures.size)
     c.settle.ensures.here c.settle.ensures.others).0
 
 pub look_free-requires-clause-at : goal.look_free-requires-clause-at
@@ -21,7 +21,7 @@ look_free-requires-clause-at c =
     let old = c.args.search.now in
     let mid = c.settle.new.self in
     (settle_all h old mid c.args.node c.requires.searching c.requires.nearest c.settle.ensures.rest
-    (over_sized (wave_of h).tree old.order mid.order c.requires.searching.order c.settle.ensures.size)
+    (over_sized (wave_of h).tree old.order mid.order c.requires.searching.tables.order c.settle.ensures.size)
     c.settle.ensures.here c.settle.ensures.others).1
 
 pub look_further-requires-clause-at : goal.look_further-requires-clause-at
@@ -31,7 +31,7 @@ look_further-requires-clause-at c =
     let mid = c.settle.new.self in
     at_kept mid c.look_free.new.search c.look_free.ensures.improves c.args.node
     (settle_all h old mid c.args.node c.requires.searching c.requires.nearest c.settle.ensures.rest
-    (over_sized (wave_of h).tree old.order mid.order c.requires.searching.order c.settle.ensures.size)
+    (over_sized (wave_of h).tree old.order mid.order c.requires.searching.tables.order c.settle.ensures.size)
     c.settle.ensures.here c.settle.ensures.others).1
 
 pub returns-clause-hole : goal.returns-clause-hole
@@ -46,7 +46,7 @@ returns-clause-settles c =
     let mid = c.settle.new.self in
     let last = c.look_further.new.search in
     (settle_all h old mid c.args.node c.requires.searching c.requires.nearest c.settle.ensures.rest
-    (over_sized (wave_of h).tree old.order mid.order c.requires.searching.order c.settle.ensures.size)
+    (over_sized (wave_of h).tree old.order mid.order c.requires.searching.tables.order c.settle.ensures.size)
     c.settle.ensures.here c.settle.ensures.others).2 last
     (improves_trans mid c.look_free.new.search last c.look_free.ensures.improves
     c.look_further.ensures.improves)

@@ -1,12 +1,12 @@
 use Rattle.std.proofs.Common.{arith, inl, sym, ap, ◌∙◌}
 use Rattle.tree_flow.specs.Nodes.{parent}
 use Rattle.tree_planner.specs.SearchingBack.{order_at, state_at, wave_of}
+use Rattle.tree_planner.proofs.ImprovedBack.{room_left}
 use Rattle.tree_planner.proofs.back.look_up.Goals as goal
 
 pub overflow_add-distance : goal.overflow_add-distance
 overflow_add-distance c =
     let most = c.requires.searching.most c.args.node in
-    let limit = c.requires.searching.limit in
     let small = c.requires.hollow.fixed.small in
     omega arith
 
@@ -21,7 +21,7 @@ returns-then-flow_of-slots_at-clause-searching c =
     let h = c.args.hollow.now in
     let level = c.requires.hollow.standing.kept.level.down c.args.node (omega arith) in
     let same = ap (state_at h).depth c.above-up.ensures.node in
-    c.reach.ensures.kept h c.requires.searching (λ none. record {
+    c.reach.ensures.kept h c.requires.searching c.above-up.ensures.known (λ none. record {
       known = c.requires.known;
       hangs = λ e.
           (let some = c.requires.at.settled in
@@ -33,3 +33,7 @@ returns-then-flow_of-slots_at-clause-searching c =
       room = omega arith;
       cost = omega arith;
     })
+
+pub reach-requires-clause-room : goal.reach-requires-clause-room
+reach-requires-clause-room c =
+    room_left c.args.hollow.now c.args.search.now c.requires.searching c.above-up.result c.above-up.ensures.known

@@ -1,11 +1,11 @@
 use Rattle.std.proofs.Common.{◌<◌, ap, arith, inl, sym, subst}
 use Rattle.tree_planner.specs.SearchingBack.{far_at, order_at, state_at}
+use Rattle.tree_planner.proofs.ImprovedBack.{room_left}
 use Rattle.tree_planner.proofs.back.step_down.Goals as goal
 
 pub overflow_add-distance : goal.overflow_add-distance
 overflow_add-distance c =
     let most = c.requires.searching.most c.args.node in
-    let limit = c.requires.searching.limit in
     let small = c.requires.hollow.fixed.small in
     omega arith
 
@@ -24,7 +24,7 @@ returns-then-flow_of-gt0-clause-searching c =
     let up = c.requires.below.above in
     let far = ap (λ v. far_at search v) up in
     let depth = ap (state_at h).depth up in
-    c.reach.ensures.kept h c.requires.searching (λ none. record {
+    c.reach.ensures.kept h c.requires.searching c.requires.below.known (λ none. record {
       hangs = λ e.
           (let top = c.requires.hollow.standing.kept.balanced.top in
           let same = ap (state_at h).flow e in
@@ -33,3 +33,7 @@ returns-then-flow_of-gt0-clause-searching c =
       some = omega arith;
       cost = (let level = c.requires.hollow.standing.kept.level.up c.args.below (omega arith) in omega arith);
     })
+
+pub reach-requires-clause-room : goal.reach-requires-clause-room
+reach-requires-clause-room c =
+    room_left c.args.hollow.now c.args.search.now c.requires.searching c.args.below c.requires.below.known

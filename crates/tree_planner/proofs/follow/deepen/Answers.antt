@@ -2,14 +2,16 @@ use Rattle.std.proofs.Common.{◌^◌, ap, subst, arith, inl, inr}
 use Rattle.tree_flow.specs.Table.{at_node}
 use Rattle.tree_flow.proofs.Moved.{same_or_not}
 use Rattle.tree_planner.proofs.Added.{over_sized}
-use Rattle.tree_planner.proofs.Deeper.{AreDeeperTo, all_deeper, deeper_next, first_deeper}
+use Rattle.tree_planner.specs.Searching.{reached_at}
+use Rattle.tree_planner.proofs.Changed.{AreChanged, next_changed, none_changed}
+use Rattle.tree_planner.proofs.Deeper.{all_deeper, deeper}
 use Rattle.tree_planner.proofs.follow.deepen.Goals as goal
 
 pub loop-k-init : goal.loop-k-init
 loop-k-init c = record {
   over = c.requires.over;
   low = c.requires.low;
-  deeper = first_deeper c.args.worth c.args.depth.now c.args.search.now;
+  deeper = none_changed (deeper c.args.worth c.args.search.now) c.args.depth.now (reached_at c.args.search.now);
 }
 
 pub deepened-deep-requires-clause-low : goal.deepened-deep-requires-clause-low
@@ -36,17 +38,20 @@ loop-k-preserved c =
         | inl e ↦ (let a = ap (at_node new) e in omega arith)
         | inr n ↦ (let same = c.set.ensures.others 0 v n in let low = i.low v in omega arith)
       ];
-      deeper = deeper_next c.args.problem.now.tree search c.requires.reached c.args.worth c.args.depth.now now new k node
-          c.at-node.ensures (omega arith) i.deeper (omega arith) (c.set.ensures.others 0);
+      deeper = next_changed (deeper c.args.worth search) c.args.depth.now (reached_at search) search.reached.count
+          c.requires.reached.once now new k node c.at-node.ensures (omega arith) i.deeper (omega arith)
+          (c.set.ensures.others 0);
     }
 
 pub returns : goal.returns
 returns c =
+    let search = c.args.search.now in
     let i = c.loop-k.invariant in
     record {
       over = i.over;
       low = i.low;
-      deeper = all_deeper c.args.problem.now.tree c.args.search.now c.requires.reached c.args.worth c.args.depth.now
-          c.loop-k.depth c.requires.small c.requires.low c.requires.bound c.requires.limit
-          (subst (λ n. AreDeeperTo c.args.worth c.args.depth.now c.args.search.now c.loop-k.depth n) (omega arith) i.deeper);
+      deeper = all_deeper c.args.problem.now.tree search c.args.worth c.args.depth.now c.loop-k.depth
+          c.requires.reached c.requires.small c.requires.low c.requires.bound c.requires.limit
+          (subst (AreChanged (deeper c.args.worth search) c.args.depth.now (reached_at search) c.loop-k.depth)
+          (omega arith) i.deeper);
     }

@@ -1,35 +1,64 @@
-use Rattle.std.proofs.Common.{ℕ, ◌<◌, ◌∙◌, get_or, length, subst, arith}
-use borrow.Author.Count.{below_more}
-use Rattle.tree_flow.specs.declared.nodes.TreeNode.TheVariants.{Worker}
-use Rattle.tree_planner.specs.SearchingBack.{wave_of}
-use Rattle.tree_flow.specs.Table.{at_node}
-use Rattle.tree_planner.specs.WayBack.{IsHigher}
-use Rattle.tree_planner.proofs.Added.{over_sized}
-use Rattle.tree_planner.proofs.Higher.{all_higher, higher_set}
+use Rattle.std.proofs.Common.{◌<◌, ◌^◌, length, ap, subst, sym, arith}
+use Rattle.tree_flow.specs.Nodes.{IsNode}
+use Rattle.tree_planner.specs.Reaching.{node_in}
+use Rattle.tree_planner.proofs.Added.{has_node, over_sized}
+use Rattle.tree_planner.proofs.Changed.{AreChanged, next_changed, none_changed}
+use Rattle.tree_planner.proofs.Higher.{all_higher, higher}
 use Rattle.tree_planner.proofs.refill.lift.Goals as goal
+
+pub loop-node-init : goal.loop-node-init
+loop-node-init c = record {
+  over = c.requires.over;
+  higher = none_changed (higher c.args.search.now) c.args.depth.now (node_in c.args.search.now.reached.items);
+}
+
+pub get-requires-in-loop-node : goal.get-requires-in-loop-node
+get-requires-in-loop-node c =
+    let k = c.loop-node.node-index in
+    let is = c.deref-node-items.ensures.value in
+    let size = ap length is in
+    has_node c.args.problem.now.tree c.loop-node.depth (node_in c.deref-node-items.result.now k)
+    c.loop-node.invariant.over (subst (λ xs. IsNode c.args.problem.now.tree (node_in xs k)) (sym is)
+    (c.requires.reached.row.known k (omega arith)))
+
+pub set-requires : goal.set-requires
+set-requires c =
+    let k = c.loop-node.node-index in
+    let is = c.deref-node-items.ensures.value in
+    let size = ap length is in
+    has_node c.args.problem.now.tree c.loop-node.depth (node_in c.deref-node-items.result.now k)
+    c.loop-node.invariant.over (subst (λ xs. IsNode c.args.problem.now.tree (node_in xs k)) (sym is)
+    (c.requires.reached.row.known k (omega arith)))
 
 pub loop-node-preserved : goal.loop-node-preserved
 loop-node-preserved c =
-    let h = c.args.hollow.now in
     let search = c.args.search.now in
-    let old = c.loop-node.depth in
+    let row = search.reached.items in
+    let now = c.loop-node.depth in
     let new = c.set.new.self in
-    let nodes = c.deref-node-items.result.now in
-    let node = get_or nodes c.loop-node.node-index (Worker 0) in
+    let i = c.loop-node.invariant in
+    let k = c.loop-node.node-index in
+    let is = c.deref-node-items.ensures.value in
+    let size = ap length is in
+    let here = c.set.ensures.here 0 in
+    let depth = c.get-in-loop-node.ensures 0 in
+    let far = c.get.ensures (2 ^ 60) in
     record {
-      over = over_sized (wave_of h).tree old new c.loop-node.invariant.over c.set.ensures.size;
-      each = below_more (λ (k : ℕ). IsHigher h search (get_or nodes k (Worker 0))
-          (at_node new (get_or nodes k (Worker 0)))) c.loop-node.node-index
-          (λ k l. higher_set h search old new node c.higher_at.result c.set.ensures.here c.set.ensures.others
-          c.higher_at.ensures (get_or nodes k (Worker 0)) (c.loop-node.invariant.each k l))
-          (c.set.ensures.here 0 ∙ c.higher_at.ensures);
+      over = over_sized c.args.problem.now.tree now new i.over c.set.ensures.size;
+      higher = next_changed (higher search) c.args.depth.now (node_in row) (length row) c.requires.reached.row.once now new
+          k (node_in c.deref-node-items.result.now k) (ap (λ xs. node_in xs k) is) (omega arith) i.higher (omega arith)
+          (c.set.ensures.others 0);
     }
 
-pub returns-clause-higher : goal.returns-clause-higher
-returns-clause-higher c =
-    let h = c.args.hollow.now in
+pub returns : goal.returns
+returns c =
     let search = c.args.search.now in
-    all_higher h search c.loop-node.depth c.requires.hollow c.loop-node.invariant.over
-    (subst (λ xs. (k : ℕ) → k < length xs → IsHigher h search (get_or xs k (Worker 0))
-    (at_node c.loop-node.depth (get_or xs k (Worker 0)))) c.deref-node-items.ensures.value
-    (λ k l. c.loop-node.invariant.each k (omega arith)))
+    let row = search.reached.items in
+    let i = c.loop-node.invariant in
+    let size = ap length c.deref-node-items.ensures.value in
+    record {
+      over = i.over;
+      higher = all_higher c.args.problem.now.tree search c.args.depth.now c.loop-node.depth c.requires.reached.row
+          c.requires.bound
+          (subst (AreChanged (higher search) c.args.depth.now (node_in row) c.loop-node.depth) (omega arith) i.higher);
+    }

@@ -2,7 +2,7 @@ use Rattle.std.proofs.Common.{ℕ, List, subst}
 use Rattle.std.proofs.lemmas.Bool.{false≢true}
 use Rattle.tree_flow.specs.Settled.{AreTermsOf}
 use Rattle.tree_planner.specs.View.{state_of}
-use Rattle.tree_planner.specs.WayBack.{IsSpare}
+use Rattle.tree_planner.specs.SearchingBack.{IsBlank}
 use Rattle.tree_planner.proofs.Standing.{begins_standing}
 use Rattle.tree_planner.proofs.kept.Engine.new.Goals as goal
 
@@ -12,6 +12,6 @@ invariant_of-result c = (
   begins_standing c.args.problem c.in_ok-tables.tables
       (subst (λ (ps : List (List ℕ)). AreTermsOf c.args.problem ps (state_of c.in_ok-tables.tables).terms)
       c.free.ensures c.in_ok-tables.ensures.terms) c.in_ok-tables.ensures.tables c.in_ok-tables.ensures.fresh,
-  subst (λ t. IsSpare t c.in_ok-spare.spare) c.tree.ensures.tree c.in_ok-spare.ensures,
+  subst (λ t. IsBlank t c.in_ok-search_back.search_back) c.tree.ensures.tree c.in_ok-search_back.ensures,
   λ is. absurd (false≢true is),
 )
