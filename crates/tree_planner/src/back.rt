@@ -54,13 +54,15 @@ pub enum Rest {
     Join(u32, End),
 }
 
-/// What a search back stands on: a problem, what is read of it, and the tables of a state with a hole.
+/// What a search back stands on: a problem, what is read of it, the tables of a state with a hole, and a split that
+/// may fill it for nothing, if one is known.
 #[derive(Drop)]
 pub struct Hollow<'a> {
     pub problem: &'a Problem,
     pub fixed: &'a Fixed,
     pub tables: &'a Tables,
     pub hole: TreeNode,
+    pub first: Option<u32>,
 }
 
 /// From which node the hole starts; how far each node is, how the hole comes to it, as which one it was looked
@@ -487,6 +489,39 @@ fn step_down(hollow: &Hollow<'_>, search: &mut SearchBack, node: TreeNode, below
 
 // Splits may go over to the node, or start there.
 fn look_over(hollow: &Hollow<'_>, search: &mut SearchBack, node: TreeNode)
+    requires hollow { IsHollow hollow.now }
+    requires known { IsNode (wave_of hollow.now).tree node }
+    requires searching { IsSearching hollow.now search.old }
+    requires at { IsAt search.old node }
+    ensures hole { search.new.hole ≡ search.old.hole }
+    ensures searching { IsSearching hollow.now search.new }
+    ensures improves { Improves search.old search.new }
+    ensures over { (t : ℕ) → AreInto hollow.now search.new node t }
+{
+    over_first(hollow, search, node);
+    over_all(hollow, search, node);
+}
+
+// The split that is to be looked at first may do so, if there is one.
+fn over_first(hollow: &Hollow<'_>, search: &mut SearchBack, node: TreeNode)
+    requires hollow { IsHollow hollow.now }
+    requires known { IsNode (wave_of hollow.now).tree node }
+    requires searching { IsSearching hollow.now search.old }
+    requires at { IsAt search.old node }
+    ensures hole { search.new.hole ≡ search.old.hole }
+    ensures searching { IsSearching hollow.now search.new }
+    ensures improves { Improves search.old search.new }
+{
+    let Some(split) = hollow.first else {
+        return;
+    };
+    if (split as usize) < hollow.tables.places.len() {
+        over_split(hollow, search, node, split);
+    }
+}
+
+// The same of all splits, until an end is known that is no farther than the node.
+fn over_all(hollow: &Hollow<'_>, search: &mut SearchBack, node: TreeNode)
     requires hollow { IsHollow hollow.now }
     requires known { IsNode (wave_of hollow.now).tree node }
     requires searching { IsSearching hollow.now search.old }

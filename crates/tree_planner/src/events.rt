@@ -57,13 +57,14 @@ pub fn settle(
 }
 
 /// A slot of a worker comes back: a split that waits may take it, splits may change their places for it, or
-/// it stays free.
+/// it stays free. One split is looked at first, if there is one.
 pub fn free(
     problem: &mut Problem,
     fixed: &mut Fixed,
     tables: &mut Tables,
     search: &mut SearchBack,
     worker: WorkerNo,
+    first: Option<u32>,
 )
     requires fixed { IsFixed problem.old fixed.old }
     requires standing { IsStanding problem.old tables.old }
@@ -79,7 +80,7 @@ pub fn free(
 {
     let hole = TreeNode::Worker(worker.index() as u16);
     add_slot(problem, fixed, tables, worker);
-    fill(problem, fixed, tables, search, hole);
+    fill(problem, fixed, tables, search, hole, first);
 }
 
 // Gives a worker one slot more, which nobody has yet.

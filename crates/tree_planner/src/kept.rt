@@ -16,6 +16,7 @@ ghost use Rattle.tree_planner.specs.Way.{AreOthersSame};
 ghost use Rattle.wave_problem.specs.Assignment.{pairs_of, IsBest};
 
 use crate::back::SearchBack;
+use crate::copies::Copies;
 use crate::engine::{Fixed, Found, fixed_parts, read_off, ship};
 use crate::events::{free, pass_over, pend, place_at, settle, start};
 use crate::follow::shorten_lists;
@@ -41,6 +42,7 @@ pub struct Engine {
     tables: Tables,
     // (lent to each search back, blank before and after)
     search_back: SearchBack,
+    copies: Copies,
     // (if so, each split is known to be shipped, or to wait)
     settled: bool,
 }
@@ -53,6 +55,7 @@ impl Drop for Engine {
             fixed: _,
             tables: _,
             search_back: _,
+            copies: _,
             settled: _,
         } = self;
     }
@@ -81,11 +84,13 @@ impl Engine {
         let fixed = fixed_parts(alloc, &problem)?;
         let tables = fresh_tables(alloc, &problem, fixed.reward, PlacePrices::free(alloc))?;
         let search_back = SearchBack::new(alloc, problem.tree())?;
+        let copies = Copies::new(alloc, &problem)?;
         Ok(Engine {
             problem,
             fixed,
             tables,
             search_back,
+            copies,
             settled: false,
         })
     }
@@ -152,12 +157,16 @@ impl Engine {
         ensures err { OnErr result (self.new ≡ self.old) }
     {
         let _ = alloc;
+        let first = self
+            .copies
+            .first_waiting(&self.problem, &self.tables.places, worker.index());
         free(
             &mut self.problem,
             &mut self.fixed,
             &mut self.tables,
             &mut self.search_back,
             worker,
+            first,
         );
         Ok(())
     }

@@ -11,6 +11,7 @@
 mod back;
 mod children;
 mod choice;
+mod copies;
 mod covers;
 mod cursors;
 mod down;

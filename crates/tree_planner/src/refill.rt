@@ -21,13 +21,14 @@ use tree_flow::{End, NodeTable, Place, TreeNode};
 use wave_problem::Problem;
 
 /// Fills a hole as cheaply as can be: a split that waits takes the slot, or a slot of a worker becomes free. The
-/// search for it is blank before and after. Nothing here needs memory.
+/// search for it is blank before and after, and looks at one split first, if there is one. Nothing here needs memory.
 pub fn fill(
     problem: &Problem,
     fixed: &Fixed,
     tables: &mut Tables,
     search: &mut SearchBack,
     hole: TreeNode,
+    first: Option<u32>,
 )
     requires fixed { IsFixed problem.now fixed.now }
     requires standing { IsStandingBut problem.now tables.old (Some hole) }
@@ -37,14 +38,21 @@ pub fn fill(
     ensures unshipped { AreAllSame (state_of tables.old) (state_of tables.new) }
     ensures blank { IsBlank problem.now.tree search.new }
 {
-    find(problem, fixed, tables, search, hole);
+    find(problem, fixed, tables, search, hole, first);
     lift(problem, &mut tables.depth, search);
     follow(problem, fixed, tables, search);
     search.clear(problem.tree());
 }
 
 // Searches a cheapest way of the hole, which costs nothing once the nodes lie higher.
-fn find(problem: &Problem, fixed: &Fixed, tables: &Tables, search: &mut SearchBack, hole: TreeNode)
+fn find(
+    problem: &Problem,
+    fixed: &Fixed,
+    tables: &Tables,
+    search: &mut SearchBack,
+    hole: TreeNode,
+    first: Option<u32>,
+)
     requires fixed { IsFixed problem.now fixed.now }
     requires standing { IsStandingBut problem.now tables.now (Some hole) }
     requires known { IsNode problem.now.tree hole }
@@ -62,6 +70,7 @@ fn find(problem: &Problem, fixed: &Fixed, tables: &Tables, search: &mut SearchBa
         fixed,
         tables,
         hole,
+        first,
     };
     search.begin(problem, hole);
     find_rest(&hollow, search);

@@ -183,6 +183,6 @@ fn withdraw_from(
 {
     let mut search = SearchBack::new(alloc, problem.tree())?;
     take_off(problem, tables, split, end);
-    fill(problem, fixed, tables, &mut search, end.node);
+    fill(problem, fixed, tables, &mut search, end.node, None);
     Ok(())
 }

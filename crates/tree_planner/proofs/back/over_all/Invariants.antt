@@ -1,6 +1,6 @@
 use Rattle.std.proofs.Common.{◌≡◌, ℕ, ◌<◌}
 use Rattle.tree_planner.specs.SearchingBack.{AreInto, Improves, IsSearching}
-use Rattle.tree_planner.proofs.back.look_over.Given as goal
+use Rattle.tree_planner.proofs.back.over_all.Given as goal
 
 abbrev pub invariant-loop-t : goal.invariant-loop-t
 invariant-loop-t l = record {
