@@ -30,8 +30,8 @@ pub(crate) fn wave(
         → (master.new ≡ master.old) × (string_bytes lines.new ≡ string_bytes lines.old) }
 {
     master.is_kept();
-    match master.start_best(alloc) {
-        Ok((planned, wave)) => Ok(tell_wave(lines, names, wave, planned.pairs())?),
+    match master.start_wave(alloc) {
+        Ok((pairs, wave)) => Ok(tell_wave(lines, names, wave, &pairs)?),
         Err(error) => Err(error_of(error)),
     }
 }

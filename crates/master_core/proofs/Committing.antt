@@ -1,5 +1,5 @@
 -- A master after a wave that it committed.
-use Rattle.std.proofs.Common.{◌≡◌, ℕ, ◌+◌, List, [], ◌∷◌, ◌++◌, length, map, false, Bool, Option, sym, ap}
+use Rattle.std.proofs.Common.{◌≡◌, ℕ, ◌+◌, List, [], ◌∷◌, ◌++◌, length, map, false, Bool, sym, ap}
 use Rattle.std.proofs.Common.{◌∙◌, subst}
 use Rattle.std.specs.Prelude.{fold}
 use Rattle.std.proofs.lemmas.List.{append-nil}
@@ -7,7 +7,7 @@ use Rattle.wave_problem.specs.Assignment.{IsAssignment, IsBest, pairs_of, total}
 use Rattle.master_state.specs.declared.answers.Wave.{Wave}
 use Rattle.master_state.specs.declared.events.Event.TheVariants as events
 use Rattle.master_state.specs.Refusals.{has_no_room}
-use Rattle.master_state.specs.Changes.{split_started}
+use Rattle.master_state.specs.Changes.{after_wave, split_started}
 use Rattle.master_state.specs.Steps.{HasPrices, problem_of}
 use Rattle.master_state.specs.Jobs.{Job, IsCommitted}
 use Rattle.master_state.proofs.Reasons.{attempts_left}
@@ -16,6 +16,7 @@ use Rattle.master_state.proofs.Keeping.{waves_keep}
 use Rattle.master_core.specs.declared.master.Master.TheInside.{Inside}
 use Rattle.master_tables.specs.Entries.{shown_as}
 use Rattle.master_core.specs.Inside.{setup_of, state_of, job_of, HasNearEngine, IsMaster}
+use Rattle.master_core.specs.Starts.{AreCommitted, ArePriced}
 use Rattle.master_tables.specs.Kept.{AreOfSplits}
 use Rattle.master_tables.specs.Starting.{MayStart}
 use Rattle.master_core.proofs.Accepting.{Rooms, leads_to, rooms_of, still_master}
@@ -47,29 +48,30 @@ pub best_may_start : {m : Inside} {j : Job} {pairs : List (ℕ × ℕ)} {count :
     MayStart m.workers (map shown_as m.splits.items) pairs
 best_may_start was is best many free = assigned_may_start was is best.assignment many free
 
--- a master that committed a plan is one still
-pub commits : {old new : Inside} {j : Job} (plan : List (Option ℕ)) (wave : Wave) → IsMaster old →
-    job_of old ≡ j → best_in j (pairs_of plan) → HasPrices j.setup j.state plan →
-    no_room_in j wave.count ≡ false → wave.first ≡ length old.starts.items + 1 →
-    wave.count ≡ length (pairs_of plan) → wave.cost ≡ total (problem_of j.setup j.state) (pairs_of plan) → rooms_of new ≡ rooms_of old →
+-- any plan of the starts that prices certify was committed
+pub starts_committed : (old new : Inside) (j : Job) (pairs : List (ℕ × ℕ)) (wave : Wave) → job_of old ≡ j →
+    best_in j pairs → no_room_in j wave.count ≡ false → wave.first ≡ length old.starts.items + 1 →
+    wave.count ≡ length pairs → wave.cost ≡ total (problem_of j.setup j.state) pairs →
+    rooms_of new ≡ rooms_of old →
     new.history.items ≡ old.history.items ++ events.Wave wave.first wave.count wave.cost ∷ [] →
     wave.place ≡ length old.history.items + 1 →
-    fold (λ now pair. split_started now pair.0 pair.1) (state_of old) (pairs_of plan)
+    fold (λ now pair. split_started now pair.0 pair.1) (state_of old) pairs
     ≡ record (state_of new) { events = length old.history.items } →
-    new.results.items ≡ old.results.items → AreOfSplits (setup_of old) new.splits.items → HasNearEngine new →
-    IsMaster new
-commits {old = old} {new = new} {j = j} plan wave was is best priced free first count cost rooms history place
-    change results made near =
+    new.results.items ≡ old.results.items → AreCommitted j pairs wave (job_of new)
+starts_committed old new j pairs wave is best free first count cost rooms history place change results =
+    λ plan same priced.
     let committed : IsCommitted (job_of old) plan wave (job_of new) = record {
       change = record {
-        best = subst (λ (i : Job). best_in i (pairs_of plan)) (sym is) best;
+        best = subst (λ (ps : List (ℕ × ℕ)). best_in (job_of old) ps) (sym same)
+            (subst (λ (i : Job). best_in i pairs) (sym is) best);
         priced = subst (λ (i : Job). HasPrices i.setup i.state plan) (sym is) priced;
-        room = ap (λ (i : Job). no_room_in i (length (pairs_of plan))) is ∙ ap (no_room_in j) (sym count)
-            ∙ free;
+        room = ap (λ (i : Job). no_room_in i (length (pairs_of plan))) is
+            ∙ ap (no_room_in j) (ap length same ∙ sym count) ∙ free;
         first_is = first;
-        count_is = count;
-        cost_is = cost ∙ ap (λ (i : Job). total (problem_of i.setup i.state) (pairs_of plan)) (sym is);
-        leads = leads_to old new _ _ history change;
+        count_is = count ∙ ap length (sym same);
+        cost_is = cost ∙ ap (λ (i : Job). total (problem_of i.setup i.state) pairs) (sym is)
+            ∙ ap (total (problem_of (setup_of old) (state_of old))) (sym same);
+        leads = leads_to old new _ _ history change ∙ ap (after_wave (state_of old)) (sym same);
       };
       next = record {
         place_is = place;
@@ -78,4 +80,14 @@ commits {old = old} {new = new} {j = j} plan wave was is best priced free first 
         results = results ∙ sym (append-nil old.results.items);
       };
     } in
-    still_master was rooms (waves_keep (job_of old) (job_of new) plan wave was.kept committed) made near
+    subst (λ (i : Job). IsCommitted i plan wave (job_of new)) is committed
+
+-- and the master is one still
+pub commits : (old new : Inside) (j : Job) (pairs : List (ℕ × ℕ)) (wave : Wave) → IsMaster old → job_of old ≡ j →
+    ArePriced j pairs → AreCommitted j pairs wave (job_of new) → rooms_of new ≡ rooms_of old →
+    AreOfSplits (setup_of old) new.splits.items → HasNearEngine new → IsMaster new
+commits old new j pairs wave was is (plan, same, priced) committed rooms made near =
+    still_master was rooms
+    (waves_keep (job_of old) (job_of new) plan wave was.kept
+    (subst (λ (i : Job). IsCommitted i plan wave (job_of new)) (sym is) (committed plan same priced)))
+    made near

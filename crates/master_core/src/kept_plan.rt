@@ -2,7 +2,7 @@
 ghost use Rattle.std.specs.Prelude.{◌≡◌, ◌≢◌, ℕ, ◌<◌, ◌≤◌, false, length, map, slice_index_or, All, IfOk};
 ghost use Rattle.std.specs.Prelude.{◌⊎◌, IsTrue, OnOk};
 ghost use Rattle.std.specs.List.{Contains};
-ghost use Rattle.wave_problem.specs.declared.TheConstants.{MAX_SLOTS};
+ghost use Rattle.wave_problem.specs.declared.TheConstants.{MAX_SLOTS, MAX_SPLITS};
 ghost use Rattle.wave_problem.specs.Assignment.{IsBest, pairs_of, total};
 ghost use Rattle.wave_problem.specs.Wave.{split_at, worker_in};
 ghost use Rattle.price_certificate.specs.Certificate.{claim, Certifies, HasOneSize};
@@ -13,6 +13,7 @@ ghost use Rattle.master_state.specs.Steps.{worker_line};
 ghost use Rattle.wave_planner.specs.Planned.{IsMadeOver};
 ghost use Rattle.master_tables.specs.Entries.{shown_as};
 ghost use Rattle.master_core.specs.Near.{flags_of, HasFlags, IsSettled};
+ghost use Rattle.master_core.specs.Starts.{ArePlanned};
 
 use crate::lists::pending_flags;
 use crate::touched::Touched;
@@ -21,7 +22,7 @@ use master_tables::lines::worker_lines;
 use node_ids::{SplitNo, WorkerNo};
 use std::alloc::{AllocError, Global};
 use tree_planner::{Engine, Found};
-use wave_planner::Planned;
+use wave_planner::{Planned, cost_of};
 use wave_problem::{Problem, WorkerLine};
 use worker_table::Worker;
 
@@ -39,6 +40,7 @@ pub(crate) fn plan_of(alloc: Global, engine: &Engine) -> Result<Planned, AllocEr
     ensures certifies { IfOk result (λ planned.
         Certifies (claim engine.now.wave planned.plan.starts planned.prices)) }
     ensures best { IfOk result (λ planned. IsBest engine.now.wave (pairs_of planned.plan.starts)) }
+    ensures few { IfOk result (λ planned. length (pairs_of planned.plan.starts) ≤ MAX_SPLITS) }
     ensures count { IfOk result (λ planned. planned.certified.count ≡ length (pairs_of planned.plan.starts)) }
     ensures cost { IfOk result (λ planned.
         planned.certified.cost ≡ total engine.now.wave (pairs_of planned.plan.starts)) }
@@ -49,7 +51,29 @@ pub(crate) fn plan_of(alloc: Global, engine: &Engine) -> Result<Planned, AllocEr
         prices,
         pairs,
     } = found;
+    engine.problem().limits();
     Ok(Planned::known(engine.problem(), plan, prices, pairs))
+}
+
+/// The starts of a best plan, by rising split, and their byte-distance.
+#[derive(Drop)]
+pub struct BestStarts {
+    pub pairs: Vec<(SplitNo, WorkerNo)>,
+    pub cost: u64,
+}
+
+/// The starts of an engine with all splits shipped.
+pub(crate) fn starts_of(alloc: Global, engine: &mut Engine) -> Result<BestStarts, AllocError>
+    requires { IsSettled engine.old }
+    ensures planned { IfOk result (λ starts. ArePlanned engine.old.wave starts.pairs.items) }
+    ensures cost { IfOk result (λ starts. starts.cost ≡ total engine.old.wave starts.pairs.items) }
+    ensures few { IfOk result (λ starts. length starts.pairs.items ≤ MAX_SPLITS) }
+    ensures wave { engine.new.wave ≡ engine.old.wave }
+{
+    let pairs = engine.starts(alloc)?;
+    engine.problem().limits();
+    let cost = cost_of(engine.problem(), &pairs);
+    Ok(BestStarts { pairs, cost })
 }
 
 /// The engine after it went over to another problem, with all splits shipped.

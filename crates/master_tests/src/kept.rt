@@ -69,8 +69,9 @@ fn drawn_call(seed: &mut u64, attempts: u32) -> Call {
     }
 }
 
-// That a wave is certified and starts as many splits, at the same cost, as a plan over the direct network.
-fn assert_best(rt: &impl Abort, alloc: Global, job: &mut Job) {
+// That a wave is certified and starts as many splits, at the same cost, as a plan over the direct network; and
+// that the starts alone, told of a job with the same history, are the same.
+fn assert_best(rt: &impl Abort, alloc: Global, job: &mut Job, twin: &mut Job) {
     let problem = job.master.problem(alloc).expect(rt, "no problem");
     let new = plan_with(alloc, &problem, NetworkKind::Direct).expect(rt, "no plan");
     let (kept, wave) = job.master.start_best(alloc).expect(rt, "no wave");
@@ -78,6 +79,9 @@ fn assert_best(rt: &impl Abort, alloc: Global, job: &mut Job) {
     let certified = certify(alloc, &problem, kept.plan(), kept.prices());
     assert_eq!(rt; certified, Ok(new.certified()));
     assert_eq!(rt; wave.cost, new.certified().cost);
+    let (starts, same) = twin.master.start_wave(alloc).expect(rt, "no wave");
+    assert_eq!(rt; starts.as_slice(), kept.pairs());
+    assert_eq!(rt; same, wave);
 }
 
 // Three calls that are drawn.
@@ -92,13 +96,17 @@ fn call_three_times(rt: &impl Abort, alloc: Global, job: &mut Job, seed: &mut u6
 fn waves_of_a_kept_planner_stay_best(rt: HostRuntime) {
     let (mut seed, mut starts) = (31, 0usize);
     for _ in 0..40usize {
+        let mut same = seed;
         let mut job = drawn_job(&rt, rt.alloc(), &mut seed);
+        let mut twin = drawn_job(&rt, rt.alloc(), &mut same);
         for _ in 0..50usize {
-            assert_best(&rt, rt.alloc(), &mut job);
+            assert_best(&rt, rt.alloc(), &mut job, &mut twin);
             call_three_times(&rt, rt.alloc(), &mut job, &mut seed);
+            call_three_times(&rt, rt.alloc(), &mut twin, &mut same);
         }
         starts = starts.wrapping_add(job.master.starts().len());
         last_glance(job);
+        last_glance(twin);
     }
     assert!(rt; starts >= 1000, "{starts}");
 }

@@ -242,8 +242,8 @@ impl<L: Ledger + OfJob> Held<L> {
         let Ok(starts) = Vec::with_capacity(alloc, splits) else {
             return Err(WaveError::Memory);
         };
-        let wave = match self.master.start_best(alloc) {
-            Ok((_planned, wave)) => wave,
+        let wave = match self.master.start_wave(alloc) {
+            Ok((_pairs, wave)) => wave,
             Err(CommitError::HistoryFull) => {
                 return Err(refused(hand, splits, WaveError::HistoryFull));
             }

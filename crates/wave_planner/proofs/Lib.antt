@@ -1,1 +1,2 @@
 pub mod Costed
+pub mod OverRacks

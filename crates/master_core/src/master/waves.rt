@@ -2,19 +2,20 @@
 ghost use Rattle.std.specs.Prelude.{◌≡◌, ◌≢◌, ◌<◌, ◌≤◌, length, false, true, Err, IfErr};
 ghost use Rattle.std.specs.Prelude.{IfOk, OnErr, OnOk};
 ghost use Rattle.wave_problem.specs.declared.TheConstants.{MAX_SPLITS};
-ghost use Rattle.wave_problem.specs.Assignment.{IsBest, pairs_of};
+ghost use Rattle.wave_problem.specs.Assignment.{IsBest, pairs_of, total};
 ghost use Rattle.price_certificate.specs.declared.Condition.{Condition};
 ghost use Rattle.price_certificate.specs.Certificate.{Certifies, IsFirstFailure};
 ghost use Rattle.certificate_checker.specs.Verdict.{IsCertified};
 ghost use Rattle.flow_network.specs.declared.kinds.NetworkKind.{NetworkKind};
 ghost use Rattle.wave_planner.specs.Planned.{IsMadeOver};
-ghost use Rattle.master_state.specs.Steps.{HasPrices, problem_of};
-ghost use Rattle.master_state.specs.Jobs.{AnswersCommit, IsCommitted, LacksRoomForBest, lacks_room, present};
+ghost use Rattle.master_state.specs.Refusals.{has_no_room};
+ghost use Rattle.master_state.specs.Steps.{problem_of};
+ghost use Rattle.master_state.specs.Jobs.{AnswersCommit, IsCommitted, LacksRoomForBest, present};
 ghost use Rattle.master_core.specs.Near.{HasFlags, HasPlaces, IsFlagged, IsNear, IsSettled};
-ghost use Rattle.master_core.specs.Starts.{HasSizesOf, HasTotals};
+ghost use Rattle.master_core.specs.Starts.{AreCommitted, ArePlanned, ArePriced, HasSizesOf, HasStarted, HasTotals};
 
 use crate::kept::Kept;
-use crate::kept_plan::{fresh, gone_over, kept_up, plan_of};
+use crate::kept_plan::{BestStarts, fresh, gone_over, kept_up, plan_of, starts_of};
 use crate::master::Master;
 use crate::touched::Touched;
 use certificate_checker::{Certified, certify};
@@ -72,7 +73,7 @@ impl Master {
             return Err(CommitError::Memory);
         };
         let certified = self.certified(alloc, plan, prices)?;
-        Ok(self.start_plan(plan, &pairs, certified))
+        Ok(self.start_pairs(&pairs, certified.cost))
     }
 
     /// Plans the best wave of the present state, by an engine that is kept from wave to wave, and starts it:
@@ -90,8 +91,24 @@ impl Master {
         ensures err { OnErr result (self.new ≡ self.old) }
     {
         let planned = self.best_plan(alloc)?;
-        let wave = self.start_in_room(planned.plan(), planned.pairs(), planned.certified())?;
+        let wave = self.start_in_room(planned.pairs(), planned.certified().cost)?;
         Ok((planned, wave))
+    }
+
+    /// As `start_best`, but it tells the starts alone, by rising split, without the plan and the prices. So it
+    /// takes as long as what has changed since the last wave and what starts, not as there are splits.
+    pub fn start_wave(
+        &mut self,
+        alloc: Global,
+    ) -> Result<(Vec<(SplitNo, WorkerNo)>, Wave), CommitError>
+        ensures started { IfOk result (λ p. HasStarted self.old p.0.items p.1 self.new) }
+        ensures full { result ≡ Err CommitError.HistoryFull → LacksRoomForBest self.old }
+        ensures fresh { (c : Condition) → result ≢ Err (CommitError.Stale c) }
+        ensures err { OnErr result (self.new ≡ self.old) }
+    {
+        let BestStarts { pairs, cost } = self.best_starts(alloc)?;
+        let wave = self.start_in_room(&pairs, cost)?;
+        Ok((pairs, wave))
     }
 
     // A best plan of the present state, with the prices that show it.
@@ -104,20 +121,57 @@ impl Master {
             IsBest (problem_of self.old.setup self.old.state) (pairs_of planned.plan.starts)) }
         ensures counted { IfOk result (λ planned.
             HasTotals self.old planned.plan.starts planned.certified) }
-        ensures sizes { IfOk result (λ planned. HasSizesOf self.old.setup planned.plan planned.prices) }
+        ensures few { IfOk result (λ planned. length (pairs_of planned.plan.starts) ≤ MAX_SPLITS) }
+        ensures memory { IfErr result (λ e. e ≡ CommitError.Memory) }
+        ensures same { self.new ≡ self.old }
+    {
+        let engine = self.present_engine(alloc)?;
+        let Ok(planned) = plan_of(alloc, &engine) else {
+            return Err(CommitError::Memory);
+        };
+        self.keep_engine(engine);
+        Ok(planned)
+    }
+
+    // The starts of a best plan of the present state.
+    fn best_starts(&mut self, alloc: Global) -> Result<BestStarts, CommitError>
+        ensures planned { IfOk result (λ starts.
+            ArePlanned (problem_of self.old.setup self.old.state) starts.pairs.items) }
+        ensures cost { IfOk result (λ starts. starts.cost
+            ≡ total (problem_of self.old.setup self.old.state) starts.pairs.items) }
+        ensures few { IfOk result (λ starts. length starts.pairs.items ≤ MAX_SPLITS) }
+        ensures memory { IfErr result (λ e. e ≡ CommitError.Memory) }
+        ensures same { self.new ≡ self.old }
+    {
+        let mut engine = self.present_engine(alloc)?;
+        let Ok(starts) = starts_of(alloc, &mut engine) else {
+            return Err(CommitError::Memory);
+        };
+        self.keep_engine(engine);
+        Ok(starts)
+    }
+
+    // An engine of the present state's problem, with all splits shipped. None is kept then.
+    fn present_engine(&mut self, alloc: Global) -> Result<Engine, CommitError>
+        ensures present { IfOk result (λ engine. engine.wave ≡ problem_of self.old.setup self.old.state) }
+        ensures settled { IfOk result IsSettled }
         ensures memory { IfErr result (λ e. e ≡ CommitError.Memory) }
         ensures same { self.new ≡ self.old }
     {
         let kept = self.engine.take();
-        let Ok(engine) = self.engine_from(alloc, kept, &self.touched) else {
-            return Err(CommitError::Memory);
-        };
-        let Ok(planned) = plan_of(alloc, &engine) else {
-            return Err(CommitError::Memory);
-        };
+        match self.engine_from(alloc, kept, &self.touched) {
+            Ok(engine) => Ok(engine),
+            Err(_) => Err(CommitError::Memory),
+        }
+    }
+
+    // Keeps an engine of the present state's problem for the next wave.
+    fn keep_engine(&mut self, engine: Engine)
+        requires { engine.wave ≡ problem_of self.old.setup self.old.state }
+        ensures { self.new ≡ self.old }
+    {
         self.engine = Kept::Near(engine);
         self.touched.clear();
-        Ok(planned)
     }
 
     // An engine of the present state's problem: the kept engine, or a new engine.
@@ -158,48 +212,37 @@ impl Master {
         kept_up(alloc, engine, self.workers.workers(), touched, &self.splits)
     }
 
-    // Starts the splits of a plan that is best in the present state, if there is room for them.
+    // Starts the splits of a best plan of the present state, if there is room for them.
     fn start_in_room(
         &mut self,
-        plan: &Plan,
         pairs: &[(SplitNo, WorkerNo)],
-        certified: Certified,
+        cost: u64,
     ) -> Result<Wave, CommitError>
-        requires pairs { pairs.now ≡ pairs_of plan.now.starts }
-        requires few { length plan.now.starts ≤ MAX_SPLITS }
-        requires best { IsBest (problem_of self.old.setup self.old.state) (pairs_of plan.now.starts) }
-        requires priced { HasPrices self.old.setup self.old.state plan.now.starts }
-        requires counted { HasTotals self.old plan.now.starts certified }
-        ensures committed { IfOk result (λ wave. IsCommitted self.old plan.now.starts wave self.new) }
-        ensures full { lacks_room self.old plan.now.starts ≡ true → result ≡ Err CommitError.HistoryFull }
+        requires few { length pairs.now ≤ MAX_SPLITS }
+        requires best { IsBest (problem_of self.old.setup self.old.state) pairs.now }
+        requires priced { ArePriced self.old pairs.now }
+        requires cost { cost ≡ total (problem_of self.old.setup self.old.state) pairs.now }
+        ensures committed { IfOk result (λ wave. AreCommitted self.old pairs.now wave self.new) }
         ensures why { IfErr result (λ e. (e ≡ CommitError.HistoryFull)
-            × (lacks_room self.old plan.now.starts ≡ true)) }
+            × (has_no_room self.old.setup self.old.state (length pairs.now) ≡ true)) }
         ensures err { OnErr result (self.new ≡ self.old) }
     {
         if self.has_no_room(pairs.len()) {
             return Err(CommitError::HistoryFull);
         }
-        Ok(self.start_plan(plan, pairs, certified))
+        Ok(self.start_pairs(pairs, cost))
     }
 
-    // Starts the splits of a plan that is best in the present state, for which there is room.
-    fn start_plan(
-        &mut self,
-        plan: &Plan,
-        pairs: &[(SplitNo, WorkerNo)],
-        certified: Certified,
-    ) -> Wave
-        requires pairs { pairs.now ≡ pairs_of plan.now.starts }
-        requires best { IsBest (problem_of self.old.setup self.old.state) (pairs_of plan.now.starts) }
-        requires priced { HasPrices self.old.setup self.old.state plan.now.starts }
-        requires counted { HasTotals self.old plan.now.starts certified }
-        requires room { lacks_room self.old plan.now.starts ≡ false }
-        ensures { IsCommitted self.old plan.now.starts result self.new }
+    // Starts the splits of a best plan of the present state, for which there is room.
+    fn start_pairs(&mut self, pairs: &[(SplitNo, WorkerNo)], cost: u64) -> Wave
+        requires best { IsBest (problem_of self.old.setup self.old.state) pairs.now }
+        requires priced { ArePriced self.old pairs.now }
+        requires cost { cost ≡ total (problem_of self.old.setup self.old.state) pairs.now }
+        requires room { has_no_room self.old.setup self.old.state (length pairs.now) ≡ false }
+        ensures { AreCommitted self.old pairs.now result self.new }
     {
-        let _ = plan;
         let first = AttemptNo::new(self.starts.len() as u32 + 1);
-        let count = certified.count as u32;
-        let cost = certified.cost;
+        let count = pairs.len() as u32;
         start_each(&mut self.workers, &mut self.splits, &mut self.starts, pairs);
         self.touched.touch_each(pairs);
         let place = record_event(&mut self.history, Event::Wave { first, count, cost });

@@ -10,7 +10,7 @@ use Rattle.shared_master.proofs.held.Held.start_any.Goals as goal
 
 pub keep_starts-requires-clause-last : goal.keep_starts-requires-clause-last
 keep_starts-requires-clause-last g c =
-    last_wave _ _ _ _ _ (by_wave _ _ _ _ c.in-Ok-start_best.ensures.committed)
+    last_wave _ _ _ _ _ (by_wave _ _ _ _ c.in-Ok-start_wave.ensures.started.committed)
 
 pub keep_starts-requires-clause-fits : goal.keep_starts-requires-clause-fits
 keep_starts-requires-clause-fits g c =
@@ -19,13 +19,13 @@ keep_starts-requires-clause-fits g c =
       c.in-Ok.ensures.capacity,
       c.splits-splits.ensures,
       ap (λ (h : HeldValue). length h.job.setup.cluster.splits) c.self.view_is,
-      wave_few _ _ _ _ c.in-Ok-start_best.ensures.committed,
+      wave_few _ _ _ _ c.in-Ok-start_wave.ensures.started.committed,
     )
 
 pub keep_starts-requires-clause-room : goal.keep_starts-requires-clause-room
 keep_starts-requires-clause-room g c =
     has_room-wave _ _ c.args.hand.now _ _ _ (ap (λ (h : HeldValue). h.job) c.self.view_is) c.requires.room
-    c.in-Ok-start_best.ensures.committed
+    c.in-Ok-start_wave.ensures.started.committed
 
 pub returns-in-Err-HistoryFull-clause-answer : goal.returns-in-Err-HistoryFull-clause-answer
 returns-in-Err-HistoryFull-clause-answer g c =
@@ -41,10 +41,11 @@ returns-in-Err-HistoryFull-clause-answer g c =
 pub returns-clause-answer : goal.returns-clause-answer
 returns-clause-answer g c =
     let own : IsOwn c.args.self.now.job c.args.hand.now = search rules in
+    let started = c.in-Ok-start_wave.ensures.started in
     planned_as c.self.inside.master c.args.self.now.job c.args.hand.now _ _ _ c.keep_starts.result
-    c.start_best.new.self c.keep_starts.new.hand (ap (λ (h : HeldValue). h.job) c.self.view_is) own
-    c.requires.room c.in-Ok-start_best.ensures.over c.in-Ok-start_best.ensures.certifies
-    c.in-Ok-start_best.ensures.committed c.is_kept.ensures c.keep_starts.ensures.wave
+    c.start_wave.new.self c.keep_starts.new.hand (ap (λ (h : HeldValue). h.job) c.self.view_is) own
+    c.requires.room started.planned.over started.planned.certifies
+    started.committed c.is_kept.ensures c.keep_starts.ensures.wave
     c.keep_starts.ensures.starts
     (c.keep_starts.ensures.hand
     ∙ ap (λ (e : Event). with_call c.args.hand.now (kept_as e c.keep_starts.result))

@@ -5,8 +5,8 @@ use Rattle.wave_problem.proofs.Pairs.{pairs_started}
 use Rattle.price_certificate.specs.declared.Condition.TheVariants.{Allowed, Open}
 use Rattle.price_certificate.proofs.Covered.{charge-plain}
 use Rattle.rack_network.proofs.Exists.{certified_is_over_racks}
-use Rattle.rack_network.specs.Racks.{IsTree}
 use Rattle.wave_planner.proofs.Costed.{pairs_few}
+use Rattle.wave_planner.proofs.OverRacks.{is_tree}
 use Rattle.wave_planner.proofs.planning.Planned.known.Goals as goal
 
 pub cost_of-requires-clause-few : goal.cost_of-requires-clause-few
@@ -30,19 +30,9 @@ cost_of-requires-clause-known c = λ k d l.
 
 pub returns-clause-over : goal.returns-clause-over
 returns-clause-over c =
-    let within = c.limits.ensures.problem in
-    let tree = c.limits.ensures.tree in
     let wave = c.args.problem.now in
-    let is : IsTree wave = record {
-      few_splits = within.few_splits;
-      few_centres = omega arith;
-      few_racks = omega arith;
-      few_workers = within.few_workers;
-      racks = λ w l. tree.known w 0 (let lines = within.one_line_each in omega arith);
-      centres = λ r l. tree.centres_known r 0 l;
-    } in
-    certified_is_over_racks wave c.args.plan.starts c.args.plan.workers c.args.prices is c.requires.sizes
-    c.requires.certifies c.requires.idle
+    certified_is_over_racks wave c.args.plan.starts c.args.plan.workers c.args.prices
+    (is_tree wave c.limits.ensures.problem c.limits.ensures.tree) c.requires.sizes c.requires.certifies c.requires.idle
 
 pub invariant_of-result : goal.invariant_of-result
 invariant_of-result c = (
