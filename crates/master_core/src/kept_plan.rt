@@ -1,4 +1,4 @@
-//! The engine of a wave, and its plan.
+//! The engine of a wave, with its plan or its starts alone.
 ghost use Rattle.std.specs.Prelude.{◌≡◌, ◌≢◌, ℕ, ◌<◌, ◌≤◌, false, length, map, slice_index_or, All, IfOk};
 ghost use Rattle.std.specs.Prelude.{◌⊎◌, IsTrue, OnOk};
 ghost use Rattle.std.specs.List.{Contains};

@@ -320,7 +320,7 @@ impl<L: Ledger + OfJob> SharedMaster<L> {
         self.lock.lock(rt).plan_wave(alloc, hand)
     }
 
-    /// `Master::start_best` under the lock: in one hold it plans a wave by the engine that the master keeps,
+    /// `Master::start_wave` under the lock: in one hold it plans a wave by the engine that the master keeps,
     /// and commits it. Once the hand has room for fewer starts than there are splits, it plans without that
     /// engine, as the last turn of `plan_wave` does.
     pub fn start_best<R: Wait>(
