@@ -121,7 +121,7 @@ pub(crate) fn kept_up(
 {
     let mut engine = engine;
     flag_splits(alloc, &mut engine, touched, entries)?;
-    put_workers(alloc, &mut engine, workers, entries)?;
+    put_workers(alloc, &mut engine, workers, touched, entries)?;
     engine.settle(alloc)?;
     Ok(engine)
 }
@@ -217,6 +217,7 @@ fn put_workers(
     alloc: Global,
     engine: &mut Engine,
     workers: &[Worker],
+    touched: &Touched,
     entries: &[SplitEntry],
 ) -> Result<(), AllocError>
     requires workers { length workers.now ≡ length engine.old.wave.workers }
@@ -227,7 +228,7 @@ fn put_workers(
     ensures { OnOk result (engine.new.wave
         ≡ turned engine.old.wave (map worker_line workers.now) (flags_of entries.now)) }
 {
-    if are_few_back(engine.problem(), workers) && fit_workers(alloc, engine, workers)? {
+    if are_few_back(engine.problem(), workers, touched) && fit_workers(alloc, engine, workers)? {
         return Ok(());
     }
     let lines = worker_lines(alloc, workers)?;
@@ -236,11 +237,16 @@ fn put_workers(
     Ok(())
 }
 
-// Whether so few slots come back that to search for each of them costs less than to ship all splits anew.
-fn are_few_back(problem: &Problem, workers: &[Worker]) -> bool
+// Whether so few slots come back that to search for each of them costs less than to ship all splits anew. The
+// end of a map attempt touches its split, and gives two slots back at most; parts are few. So where few splits
+// are touched, no worker is looked at.
+fn are_few_back(problem: &Problem, workers: &[Worker], touched: &Touched) -> bool
     requires workers { length workers.now ≡ length problem.now.workers }
     requires within { All (λ worker. worker.taken ≤ worker.slots) workers.now }
 {
+    if !touched.any && touched.splits.len() < MANY_SLOTS / 2 {
+        return true;
+    }
     let mut back = 0;
     for w in 0..problem.workers() {
         let free = line_at(workers, w).free;
