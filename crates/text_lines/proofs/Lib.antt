@@ -2,6 +2,7 @@
 -- words of digits.
 pub mod Pieces
 pub mod Lengths
+pub mod Spaces
 pub mod Splitting
 pub mod Keys
 pub mod NumberedLines

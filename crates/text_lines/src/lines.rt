@@ -1,9 +1,14 @@
 ghost use Rattle.std.specs.Prelude.{◌≡◌, ◌∷◌, ◌++◌, [], ◌<◌, ◌≤◌, ◌↔◌, ◌==◌, IfOk, IsTrue, MatchOption};
-ghost use Rattle.std.specs.Prelude.{length, map, position, All};
+ghost use Rattle.std.specs.Prelude.{false, length, map, position, slice_index, All, ℕ};
+ghost use Rattle.std.specs.Int.{bit_at};
 ghost use Rattle.text_lines.specs.Texts.{IsCutAtSpace, IsOfLine, IsPrintable, lines_of, words_left, words_of};
 
 use memchr::memchr;
 use std::alloc::AllocError;
+use std::simd::prelude::*;
+
+// So many bytes of a line are tested for a space at once.
+const FRONT: usize = 8;
 
 /// The first line of a text, without its line feed, and what follows the line feed, if it has one.
 pub fn split_line(text: &[u8]) -> (&[u8], Option<&[u8]>)
@@ -106,12 +111,41 @@ pub fn split_word(line: &str) -> (&str, Option<&str>)
     }
 }
 
-// Where the first space stands. It is looked for byte by byte, since most words are short.
+// Where the first space stands. The first bytes are tested at once, since most words are short.
 #[inline(always)]
 fn first_space(line: &[u8]) -> Option<usize>
     ensures { result ≡ position (λ b. b == 32) line.now }
 {
-    for at in 0..line.len() {
+    if line.len() < FRONT {
+        return first_space_from(line, 0);
+    }
+    let spaces = spaces_in_front(line);
+    if spaces != 0 {
+        Some(spaces.trailing_zeros() as usize)
+    } else {
+        first_space_from(line, FRONT)
+    }
+}
+
+// The places of the spaces among the first bytes, each as a bit.
+#[inline(always)]
+fn spaces_in_front(line: &[u8]) -> u64
+    requires { 8 ≤ length line.now }
+    ensures marked { (k : ℕ) → k < 8 → slice_index line.now k ≡ 32 → bit_at result k ≡ 1 }
+    ensures spaces { (k : ℕ) → bit_at result k ≡ 1 → (k < 8) × (slice_index line.now k ≡ 32) }
+{
+    u8x8::from_slice(line)
+        .simd_eq(u8x8::splat(b' '))
+        .to_bitmask()
+}
+
+// Where the first space stands, which is none of the bytes before `from`.
+#[inline(always)]
+fn first_space_from(line: &[u8], from: usize) -> Option<usize>
+    requires { (k : ℕ) → k < from → (slice_index line.now k == 32) ≡ false }
+    ensures { result ≡ position (λ b. b == 32) line.now }
+{
+    for at in from..line.len() {
         if line[at] == b' ' {
             return Some(at);
         }
