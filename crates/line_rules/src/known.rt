@@ -226,12 +226,14 @@ impl<'t> KnownLines<'t> {
     }
 
     // No row is a command, so none is looked for.
+    #[inline(always)]
     fn is_once(&self, after: Section, line: &KeyedLine<'_, '_>) -> bool
         ensures { IsTrue result ↔ IsFirstOfBody after self.now.rows (statement_of line.now) }
     {
         is_command(line.keyword) || is_first_of_body(after, &self.rows, line)
     }
 
+    #[inline(always)]
     fn is_priced_before(&self, after: Section) -> bool
         ensures { IsTrue result ↔ IsPricedBefore after self.now }
     {
@@ -339,6 +341,7 @@ fn is_new_bar(rows: &Rows<'_>, bar: Option<(u32, u32)>, line: &KeyedLine<'_, '_>
 }
 
 // Whether the words in the places of names are names. Fit words are, since the rows have names alone.
+#[inline(always)]
 fn is_named(fit: bool, version: Version, line: &KeyedLine<'_, '_>) -> bool
     requires { IsTrue fit → IsNamed version (statement_of line.now) }
     ensures { IsTrue result ↔ IsNamed version (statement_of line.now) }
@@ -347,6 +350,7 @@ fn is_named(fit: bool, version: Version, line: &KeyedLine<'_, '_>) -> bool
 }
 
 // Whether each word keeps to the rule in its place, as fit words do.
+#[inline(always)]
 fn keeps(fit: bool, rule: Rule, rows: &Rows<'_>, line: &KeyedLine<'_, '_>) -> bool
     requires { IsTrue fit → Keep rule rows.now (statement_of line.now) }
     ensures { IsTrue result ↔ Keep rule rows.now (statement_of line.now) }

@@ -21,6 +21,7 @@ use crate::section::Section;
 use line_shapes::{KeyedLine, Keyword, Kind, Place};
 
 /// Whether each word after the keyword keeps to the rule in its place.
+#[inline(never)]
 pub fn keep(rule: Rule, rows: &Rows<'_>, line: &KeyedLine<'_, '_>) -> bool
     ensures { IsTrue result ↔ Keep rule rows.now (statement_of line.now) }
 {
@@ -156,6 +157,7 @@ pub fn is_few(version: Version, line: &KeyedLine<'_, '_>) -> bool
 }
 
 /// Whether each split and each worker has its price.
+#[inline(never)]
 pub fn are_priced(rows: &Rows<'_>) -> bool
     ensures { IsTrue result ↔ All (HasItsPrice rows.now) (keys_of rows.now) }
 {
@@ -209,6 +211,7 @@ pub fn is_first_of_head(after: Section, rows: &Rows<'_>, line: &KeyedLine<'_, '_
 }
 
 /// Whether a line that states something does so for the first time; `after` is the section after it.
+#[inline(always)]
 pub fn is_first_of_body(after: Section, rows: &Rows<'_>, line: &KeyedLine<'_, '_>) -> bool
     ensures { IsTrue result ↔ IsFirstOfBody after rows.now (statement_of line.now) }
 {
