@@ -1,7 +1,6 @@
 -- A table of the loads of all workers, split after split.
-use Rattle.std.proofs.Common.{◌≡◌, ℕ, ◌+◌, ◌<◌, ◌≤◌, true, false, List, length, take, get_or, set, cond, Bool}
-use Rattle.std.proofs.Common.{Option, Some, arith, get_or-set_same}
-use Rattle.std.proofs.Common.{get_or-set_other}
+use Rattle.std.proofs.Common.{◌≡◌, ℕ, ◌+◌, ◌<◌, ◌≤◌, true, false, List, length, take, get_or, set, cond, Bool, Option}
+use Rattle.std.proofs.Common.{Some, arith, get_or-set_same, get_or-set_other}
 use Rattle.std.specs.Prelude.{◌==◌}
 use Rattle.std.proofs.lemmas.Bool.{cases_eq, eq-eqb, ne_eqb}
 use Rattle.wave_problem.specs.Assignment.{load, pairs_of, start_of}

@@ -1,6 +1,5 @@
 -- The slots of the workers by rising price, and how those under one node of the tree follow each other.
-use Rattle.std.specs.Prelude.{ℕ, ◌≡◌, ◌≢◌, ◌+◌, ◌<◌, ◌≤◌, List, length, slice_index, slice_index_or, All}
-use Rattle.std.specs.Prelude.{Contains}
+use Rattle.std.specs.Prelude.{ℕ, ◌≡◌, ◌≢◌, ◌+◌, ◌<◌, ◌≤◌, List, length, slice_index, slice_index_or, All, Contains}
 use Rattle.std.specs.List.Sorted.{IsNonDecreasingBy}
 use Rattle.node_ids.specs.Sets.{HasPair}
 use Rattle.rack_tree.specs.Tree.{Tree, centre_at}

@@ -1,12 +1,13 @@
-ghost use Rattle.std.specs.Prelude.{◌≡◌, ◌+◌, ◌*◌, ◌<◌, ◌≤◌, ◌↔◌, length};
+ghost use Rattle.std.specs.Prelude.{◌≡◌, ◌+◌, ◌*◌, ◌<◌, ◌≤◌, ◌↔◌, [], length, option_copied};
 ghost use Rattle.std.specs.Prelude.{unwrap_or, All, IsTrue, OnOk, Err, IfErr, IfOk, IfSome};
 ghost use Rattle.node_ids.specs.Sets.{HasPair};
 ghost use Rattle.rack_tree.specs.Tree.{IsWithinReach};
 ghost use Rattle.rack_tree.specs.declared.TheConstants.{MAX_DISTANCE, MAX_WORKERS};
-ghost use Rattle.wave_problem.specs.declared.TheConstants.{MAX_BYTES, MAX_SPLITS};
+ghost use Rattle.wave_problem.specs.declared.TheConstants.{MAX_BYTES, MAX_SLOTS, MAX_SPLITS};
+ghost use Rattle.price_certificate.specs.declared.TheConstants.{MAX_PLACE_PRICE};
 ghost use Rattle.wave_problem.specs.Wave.{cost, worker_at, IsOpen, IsUsable};
 ghost use Rattle.wave_problem.specs.Assignment.{load, pairs_of, start_of, total};
-ghost use Rattle.price_certificate.specs.Places.{place_price, places_taken, IsFitRow};
+ghost use Rattle.price_certificate.specs.Places.{all_places, place_price, places_taken, IsFitRow};
 ghost use Rattle.price_certificate.specs.Certificate.{AllHold, charged_claim, claim, Certifies, HasOneSize};
 ghost use Rattle.price_certificate.specs.Certificate.{Holds, IsFirstFailure, IsFirstOf, MayTake, priced_at};
 ghost use Rattle.price_certificate.specs.Certificate.{reward_of, split_price, worker_price, of_allowed};
@@ -51,48 +52,25 @@ impl<'a> Model for Checker<'a> {
 impl<'a> Checker<'a> {
     pub(crate) fn new(
         problem: &'a Problem,
+        places: Option<&'a PlacePrices>,
         plan: &'a Plan,
         prices: &'a Prices,
         loads: Option<Vec<u32>>,
     ) -> Checker<'a>
         requires sizes { HasOneSize (claim problem.now plan.now.starts prices.now) plan.now.workers }
         requires loads { IfSome loads (λ loads. AreLoads plan.now loads.items) }
-        ensures value { result ≡ claim problem.now plan.now.starts prices.now }
-        ensures near { IsWithinReach result.wave.tree }
+        ensures value { result
+            ≡ charged_claim problem.now (unwrap_or (option_copied places.entry) []) plan.now.starts prices.now }
+        ensures near { IsWithinReach problem.now.tree }
+        ensures fit { All IsFitRow (unwrap_or (option_copied places.entry) []) }
     {
         problem.limits();
         Checker {
             problem,
-            places: None,
+            places,
             plan,
             prices,
-            reward: problem.reward(),
-            loads,
-        }
-    }
-
-    // A checker where places have prices.
-    pub(crate) fn with_places(
-        problem: &'a Problem,
-        places: &'a PlacePrices,
-        plan: &'a Plan,
-        prices: &'a Prices,
-        loads: Option<Vec<u32>>,
-    ) -> Checker<'a>
-        requires sizes { HasOneSize (claim problem.now plan.now.starts prices.now) plan.now.workers }
-        requires loads { IfSome loads (λ loads. AreLoads plan.now loads.items) }
-        ensures value { result ≡ charged_claim problem.now places.now plan.now.starts prices.now }
-        ensures near { IsWithinReach result.wave.tree }
-        ensures fit { All IsFitRow result.places }
-    {
-        problem.limits();
-        places.limits();
-        Checker {
-            problem,
-            places: Some(places),
-            plan,
-            prices,
-            reward: places.total(problem) + problem.reward(),
+            reward: total_of(places, problem) + problem.reward(),
             loads,
         }
     }
@@ -211,6 +189,9 @@ impl<'a> Checker<'a> {
         requires { Certifies self.now }
         ensures { result ≡ places_taken places.now self.now.wave (pairs_of self.now.starts) }
     {
+        if places.is_free() {
+            return 0;
+        }
         self.problem().limits();
         let mut total = 0;
         for i in 0..self.workers() {
@@ -376,7 +357,9 @@ impl<'a> Checker<'a> {
     pub(crate) fn verdict(&self, alloc: Global) -> Result<Certified, Condition>
         ensures { IsVerdict self.now result }
     {
-        self.check(alloc)?;
+        self.check_before_pairs()?;
+        self.check_priced(alloc)?;
+        self.check_after_priced()?;
         Ok(self.certified())
     }
 
@@ -390,29 +373,10 @@ impl<'a> Checker<'a> {
         ensures failed { IfFailed result (IsFirstFailure self.now) }
         ensures memory { result ≡ Err CheckError.Memory → MayComparePairs self.now }
     {
-        self.check_on(rt, alloc)?;
+        self.check_before_pairs()?;
+        self.pair_checker(alloc)?.check_priced_on(rt, alloc)?;
+        self.check_after_priced()?;
         Ok(self.certified())
-    }
-
-    fn check(&self, alloc: Global) -> Result<(), Condition>
-        ensures ok { OnOk result (Certifies self.now) }
-        ensures err { IfErr result (IsFirstFailure self.now) }
-    {
-        self.check_before_pairs()?;
-        self.check_pairs(alloc)?;
-        self.check_after_pairs()
-    }
-
-    // As `check`, with the pass over the pairs on many threads.
-    fn check_on(&self, rt: &(impl Threads + Sync), alloc: Global) -> Result<(), CheckError>
-        ensures ok { OnOk result (Certifies self.now) }
-        ensures failed { IfFailed result (IsFirstFailure self.now) }
-        ensures memory { result ≡ Err CheckError.Memory → MayComparePairs self.now }
-    {
-        self.check_before_pairs()?;
-        self.check_pairs_on(rt, alloc)?;
-        self.check_after_pairs()?;
-        Ok(())
     }
 
     fn check_before_pairs(&self) -> Result<(), Condition>
@@ -424,26 +388,6 @@ impl<'a> Checker<'a> {
         self.check_room()?;
         self.check_split_prices()?;
         self.check_worker_prices()
-    }
-
-    fn check_pairs(&self, alloc: Global) -> Result<(), Condition>
-        requires { MayComparePairs self.now }
-        ensures ok { OnOk result (AllHold self.now of_priced × AllHold self.now of_tight) }
-        ensures err { IfErr result (IsFirstFailure self.now) }
-    {
-        self.check_priced(alloc)?;
-        self.check_tight()
-    }
-
-    // As `check_pairs`, on many threads.
-    fn check_pairs_on(&self, rt: &(impl Threads + Sync), alloc: Global) -> Result<(), CheckError>
-        requires { MayComparePairs self.now }
-        ensures ok { OnOk result (AllHold self.now of_priced × AllHold self.now of_tight) }
-        ensures failed { IfFailed result (IsFirstFailure self.now) }
-    {
-        self.pair_checker(alloc)?.check_priced_on(rt, alloc)?;
-        self.check_tight()?;
-        Ok(())
     }
 
     // By the slots of the workers; where there is no memory for them, by a look at each pair.
@@ -458,13 +402,13 @@ impl<'a> Checker<'a> {
         }
     }
 
-    fn check_after_pairs(&self) -> Result<(), Condition>
+    fn check_after_priced(&self) -> Result<(), Condition>
         requires before { MayComparePairs self.now }
         requires priced { AllHold self.now of_priced }
-        requires tight { AllHold self.now of_tight }
         ensures ok { OnOk result (Certifies self.now) }
         ensures err { IfErr result (IsFirstFailure self.now) }
     {
+        self.check_tight()?;
         self.check_unstarted()?;
         self.check_spare()
     }
@@ -628,6 +572,21 @@ impl<'a> Checker<'a> {
             }
         }
         Ok(())
+    }
+}
+
+// What the places of all free slots cost together.
+fn total_of(places: Option<&PlacePrices>, problem: &Problem) -> u64
+    ensures total { result ≡ all_places (unwrap_or (option_copied places.entry) []) problem.now }
+    ensures most { result ≤ MAX_WORKERS * (MAX_SLOTS * MAX_PLACE_PRICE) }
+    ensures fit { All IsFitRow (unwrap_or (option_copied places.entry) []) }
+{
+    match places {
+        Some(places) => {
+            places.limits();
+            places.total(problem)
+        }
+        None => 0,
     }
 }
 

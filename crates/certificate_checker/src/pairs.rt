@@ -125,9 +125,9 @@ impl<'a> PairChecker<'a> {
 
     // Which splits are settled, found by as many threads as there are processors.
     fn settled_on(&self, rt: &(impl Threads + Sync), alloc: Global) -> Result<Vec<bool>, AllocError>
-        ensures one_each { IfOk result (λ rows. length rows.items ≡ length self.now.wave.splits) }
-        ensures settled { IfOk result (λ rows. (s : ℕ) → s < length self.now.wave.splits
-            → IsSettled self.now s (slice_index_or rows.items s false)) }
+        ensures { IfOk result (λ rows. (length rows.items ≡ length self.now.wave.splits)
+            × ((s : ℕ) → s < length self.now.wave.splits
+            → IsSettled self.now s (slice_index_or rows.items s false))) }
     {
         (0..self.splits())
             .into_par_iter()

@@ -1,32 +1,10 @@
-use Rattle.std.proofs.Common.{subst}
-use Rattle.std.specs.Prelude.{IfOk}
-use Rattle.rack_tree.specs.Tree.{IsWithinReach}
-use Rattle.price_certificate.specs.Certificate.{Claim, IsFirstFailure, claim}
-use Rattle.price_certificate.proofs.Duality.{certified-best}
-use Rattle.certificate_checker.specs.Verdict.{IfFailed, IsCertified}
-use Rattle.certificate_checker.proofs.Verdicts.{certified-so, verdict-same}
+use Rattle.std.proofs.lemmas.Result.{on_ok_weaker}
+use Rattle.wave_problem.specs.Assignment.{pairs_of}
+use Rattle.price_certificate.proofs.Covered.{best-plain}
 use Rattle.certificate_checker.proofs.certify_on.Goals as goal
-
-pub returns-clause-certified : goal.returns-clause-certified
-returns-clause-certified g c =
-    subst (λ (z : Claim). IfOk c.verdict_on.result (IsCertified z)) c.new-checker.ensures.value
-    c.verdict_on.ensures.certified
-
-pub returns-clause-failed : goal.returns-clause-failed
-returns-clause-failed g c =
-    subst (λ (z : Claim). IfFailed c.verdict_on.result (IsFirstFailure z)) c.new-checker.ensures.value
-    c.verdict_on.ensures.failed
 
 pub returns-clause-best : goal.returns-clause-best
 returns-clause-best g c =
-    let made : Claim = claim c.args.problem.now c.args.plan.now.starts c.args.prices.now in
-    let near = subst (λ (z : Claim). IsWithinReach z.wave.tree) c.new-checker.ensures.value
-    c.new-checker.ensures.near in
-    certified-so made c.verdict_on.result
-    (certified-best made near)
-    (returns-clause-certified g c)
-
-pub returns-clause-same : goal.returns-clause-same
-returns-clause-same g c answer verdict =
-    verdict-same _ c.verdict_on.result answer (returns-clause-certified g c) (returns-clause-failed g c)
-    verdict
+    on_ok_weaker c.certify_places_on-2.result
+    (best-plain c.args.problem.now (pairs_of c.args.plan.now.starts))
+    (rw c.free.ensures at c.certify_places_on-2.ensures.best)

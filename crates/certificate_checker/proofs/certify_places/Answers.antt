@@ -1,7 +1,5 @@
-use Rattle.std.proofs.Common.{All, subst}
+use Rattle.std.proofs.Common.{subst}
 use Rattle.std.proofs.lemmas.Result.{IfOk-weaker}
-use Rattle.rack_tree.specs.Tree.{IsWithinReach}
-use Rattle.price_certificate.specs.Places.{IsFitRow}
 use Rattle.price_certificate.specs.Certificate.{Claim, charged_claim}
 use Rattle.price_certificate.proofs.Duality.{certified-best_by_charge}
 use Rattle.certificate_checker.specs.Verdict.{IsVerdict}
@@ -11,7 +9,7 @@ use Rattle.certificate_checker.proofs.certify_places.Goals as goal
 
 pub returns-clause-verdict : goal.returns-clause-verdict
 returns-clause-verdict c =
-    subst (λ (z : Claim). IsVerdict z c.verdict.result) c.with_places-checker.ensures.value c.verdict.ensures
+    subst (λ (z : Claim). IsVerdict z c.verdict.result) c.new-checker.ensures.value c.verdict.ensures
 
 pub returns-clause-certified : goal.returns-clause-certified
 returns-clause-certified c = verdict-certifies _ c.verdict.result (returns-clause-verdict c)
@@ -35,11 +33,8 @@ pub returns-clause-best : goal.returns-clause-best
 returns-clause-best c =
     let made : Claim =
     charged_claim c.args.problem.now c.args.places.now c.args.plan.now.starts c.args.prices.now in
-    let same = c.with_places-checker.ensures.value in
-    let near = subst (λ (z : Claim). IsWithinReach z.wave.tree) same c.with_places-checker.ensures.near in
-    let fit = subst (λ (z : Claim). All IsFitRow z.places) same c.with_places-checker.ensures.fit in
     certified-so made c.verdict.result
-    (certified-best_by_charge made near fit)
+    (certified-best_by_charge made c.new-checker.ensures.near c.new-checker.ensures.fit)
     (verdict-certified made c.verdict.result (returns-clause-verdict c))
 
 pub returns-clause-refused : goal.returns-clause-refused

@@ -1,5 +1,4 @@
 use Rattle.std.proofs.Common.{subst, sym, ◌∙◌}
-use Rattle.rack_tree.specs.Tree.{IsWithinReach}
 use Rattle.wave_problem.specs.Assignment.{pairs_of}
 use Rattle.price_certificate.specs.Certificate.{Claim, Certifies, claim}
 use Rattle.price_certificate.proofs.Covered.{charge-plain}
@@ -19,5 +18,4 @@ returns-clause-places c =
 pub returns-clause-best : goal.returns-clause-best
 returns-clause-best c =
     certified-best (claim c.args.problem.now c.args.plan.now.starts c.args.prices.now)
-    (subst (λ (z : Claim). IsWithinReach z.wave.tree) c.new-checker.ensures.value c.new-checker.ensures.near)
-    c.requires.certifies
+    c.new-checker.ensures.near c.requires.certifies

@@ -2,8 +2,7 @@ use Rattle.price_certificate.specs.declared.Condition.TheVariants.{Allowed}
 use Rattle.price_certificate.specs.Certificate.{MayTake}
 use Rattle.certificate_checker.proofs.Past.{rows_more, started_here, started_none}
 use Rattle.certificate_checker.proofs.checker.Checker.check_allowed.Goals as goal
-use Rattle.certificate_checker.proofs.checker.Checker.check_allowed.Goals.{in-Some+else-not-allows}
-use Rattle.certificate_checker.proofs.checker.Checker.check_allowed.Goals.{in_default}
+use Rattle.certificate_checker.proofs.checker.Checker.check_allowed.Goals.{in-Some+else-not-allows, in_default}
 
 pub loop-i-preserved : goal.loop-i-preserved
 loop-i-preserved c =

@@ -19,8 +19,8 @@ collect-requires-clause-ready g c κs within =
     rw (c.with_min_len.ensures.base, c.map.ensures.base, c.map.ensures.f, ends.0, ends.1)
     (λ k d lt. (inside k d lt, λ y p. tt))
 
-pub returns-clause-one_each : goal.returns-clause-one_each
-returns-clause-one_each g c =
+pub returns : goal.returns
+returns g c =
     let claim = c.args.self.now in
     let ends = c.into_par_iter.ensures in
     let n = length claim.wave.splits in
@@ -30,17 +30,7 @@ returns-clause-one_each g c =
     let mapped = rw c.with_min_len.ensures.base at h.1.2 in
     let rows = rw c.map.ensures.f at mapped in
     let places = base ∙ (λ i. nat_range (ends.0 i) (ends.1 i)) ∙ ap (range_with_len 0) whole in
-    ap length h.2 ∙ rows-long (IsSettled claim) 0 n h.0 (rw places at rows))
-
-pub returns-clause-settled : goal.returns-clause-settled
-returns-clause-settled g c =
-    let ends = c.into_par_iter.ensures in
-    let claim = c.args.self.now in
-    let n = length claim.wave.splits in
-    let whole : c.splits.result - 0 ≡ n = omega (arith, c.splits.ensures.count) in
-    IfOk-then c.collect.result _ _ c.collect.ensures (λ v h.
-    let base = rw (c.with_min_len.ensures.base, c.map.ensures.base) at h.1.1 in
-    let mapped = rw c.with_min_len.ensures.base at h.1.2 in
-    let rows = rw c.map.ensures.f at mapped in
-    let places = base ∙ (λ i. nat_range (ends.0 i) (ends.1 i)) ∙ ap (range_with_len 0) whole in
-    λ s l. rw h.2 (rows-at (IsSettled claim) 0 n h.0 (rw places at rows) s s (omega arith) l))
+    let told = rw places at rows in (
+      ap length h.2 ∙ rows-long (IsSettled claim) 0 n h.0 told,
+      λ s l. rw h.2 (rows-at (IsSettled claim) 0 n h.0 told s s (omega arith) l),
+    ))
