@@ -1,9 +1,9 @@
 //! Plans and checks of wide waves where places have prices.
 ghost use Rattle.std.specs.Prelude.{◌≡◌, ◌≢◌, ◌≤◌, length, IfErr, IfOk, OnOk};
 ghost use Rattle.price_certificate.specs.Certificate.{charged_claim, claim, HasOneSize};
-ghost use Rattle.wave_arrays.specs.PlacePrices.{ArePlacesFit, places_in};
-ghost use Rattle.wave_arrays.specs.Rows.{AreFit, wave_in, wide_rows};
-ghost use Rattle.mrjob_c.specs.Status.{IsCheckFit, IsPlacesCheckFit, IsPlacesPlanFit, IsFaultOfPlacesCheck};
+ghost use Rattle.wave_arrays.specs.PlacePrices.{places_in};
+ghost use Rattle.wave_arrays.specs.Rows.{wave_in, wide_rows};
+ghost use Rattle.mrjob_c.specs.Status.{IsPlacesCheckFit, IsPlacesPlanFit, IsFaultOfPlacesCheck};
 ghost use Rattle.mrjob_c.specs.Status.{IsFaultOfPlacesPlan, TellsPlacesCheckFault, TellsPlacesPlanFault};
 ghost use Rattle.mrjob_c.specs.Checks.{charged_claim_in, places_finding, IsBestWith, IsCertifiedWith};
 ghost use Rattle.mrjob_c.specs.Checks.{IsJudgedWith, IsRefusedBy, Tells, places_told};
@@ -12,7 +12,7 @@ use crate::checks::{judge, status_of_outcome, wide_verdict};
 use crate::status::{Fault, OK, are_sized, status_of};
 use certificate_checker::Certified;
 use price_certificate::Condition;
-use std::alloc::{AllocError, Global};
+use std::alloc::Global;
 use wave_arrays::{
     PlaceRows, WaveRows, WideWave, are_places_fit, are_starts_fit, build_places, build_problem,
     test_rows, write_split_prices, write_starts, write_worker_prices,
@@ -108,10 +108,9 @@ fn plan_charged(
     ensures told { IfErr result (IsFaultOfPlacesPlan rows.now places.now sizes.0 sizes.1 sizes.2) }
 {
     test_for_plan(rows, places, sizes)?;
-    match plan_fit(alloc, rows, places) {
-        Ok(planned) => Ok(planned),
-        Err(_) => Err(Fault::Memory),
-    }
+    let problem = build_problem(alloc, rows)?;
+    let prices = build_places(alloc, places)?;
+    Ok(plan_places(alloc, &problem, &prices)?)
 }
 
 fn test_for_plan(
@@ -122,9 +121,7 @@ fn test_for_plan(
     ensures fit { OnOk result (IsPlacesPlanFit rows.now places.now sizes.0 sizes.1 sizes.2) }
     ensures told { IfErr result (IsFaultOfPlacesPlan rows.now places.now sizes.0 sizes.1 sizes.2) }
 {
-    if let Err(error) = test_rows(rows) {
-        return Err(Fault::Rows(error));
-    }
+    test_rows(rows).map_err(Fault::Rows)?;
     if !are_sized(rows, sizes.0, sizes.1, sizes.2) {
         return Err(Fault::Length);
     }
@@ -132,24 +129,6 @@ fn test_for_plan(
         return Err(Fault::Places);
     }
     Ok(())
-}
-
-fn plan_fit(
-    alloc: Global,
-    rows: &WaveRows<'_>,
-    places: &PlaceRows<'_>,
-) -> Result<Planned, AllocError>
-    requires rows { AreFit rows.now }
-    requires places { ArePlacesFit (length rows.now.workers.now) places.now }
-    ensures best { IfOk result (λ planned.
-        IsBestWith (charged_claim (wave_in rows.now) (places_in places.now) planned.plan.starts
-        planned.prices) planned.certified.count planned.certified.cost planned.certified.places) }
-    ensures sizes { IfOk result (λ planned.
-        HasOneSize (claim (wave_in rows.now) planned.plan.starts planned.prices) planned.plan.workers) }
-{
-    let problem = build_problem(alloc, rows)?;
-    let prices = build_places(alloc, places)?;
-    plan_places(alloc, &problem, &prices)
 }
 
 // ---- a check ----
@@ -218,10 +197,8 @@ fn check_charged(
         split_prices.len(),
         worker_prices.len(),
     )?;
-    match judge_charged(alloc, rows, places, starts, split_prices, worker_prices) {
-        Ok(outcome) => Ok(outcome),
-        Err(_) => Err(Fault::Memory),
-    }
+    let prices = build_places(alloc, places)?;
+    Ok(judge(alloc, rows, &prices, starts, split_prices, worker_prices)?)
 }
 
 fn test_for_check(
@@ -234,9 +211,7 @@ fn test_for_check(
     ensures fit { OnOk result (IsPlacesCheckFit rows.now places.now starts.now splits workers) }
     ensures told { IfErr result (IsFaultOfPlacesCheck rows.now places.now starts.now splits workers) }
 {
-    if let Err(error) = test_rows(rows) {
-        return Err(Fault::Rows(error));
-    }
+    test_rows(rows).map_err(Fault::Rows)?;
     if !are_sized(rows, starts.len(), splits, workers) {
         return Err(Fault::Length);
     }
@@ -247,23 +222,6 @@ fn test_for_check(
         return Err(Fault::Places);
     }
     Ok(())
-}
-
-fn judge_charged(
-    alloc: Global,
-    rows: &WaveRows<'_>,
-    places: &PlaceRows<'_>,
-    starts: &[u16],
-    split_prices: &[u64],
-    worker_prices: &[u64],
-) -> Result<Result<Certified, Condition>, AllocError>
-    requires rows { IsCheckFit rows.now starts.now (length split_prices.now) (length worker_prices.now) }
-    requires places { ArePlacesFit (length rows.now.workers.now) places.now }
-    ensures judged { IfOk result
-        (IsJudgedWith (charged_claim_in rows.now places.now starts.now split_prices.now worker_prices.now)) }
-{
-    let prices = build_places(alloc, places)?;
-    judge(alloc, rows, &prices, starts, split_prices, worker_prices)
 }
 
 fn places_verdict(outcome: Result<Certified, Condition>) -> PlacesVerdict

@@ -139,10 +139,7 @@ fn check(
 {
     test_arrays(rows, starts, split_prices.len(), worker_prices.len())?;
     let unpriced = PlacePrices::free(alloc);
-    match judge(alloc, rows, &unpriced, starts, split_prices, worker_prices) {
-        Ok(outcome) => Ok(outcome),
-        Err(_) => Err(Fault::Memory),
-    }
+    Ok(judge(alloc, rows, &unpriced, starts, split_prices, worker_prices)?)
 }
 
 fn test_arrays(
@@ -154,9 +151,7 @@ fn test_arrays(
     ensures fit { OnOk result (IsCheckFit rows.now starts.now splits workers) }
     ensures told { IfErr result (IsFaultOfCheck rows.now starts.now splits workers) }
 {
-    if let Err(error) = test_rows(rows) {
-        return Err(Fault::Rows(error));
-    }
+    test_rows(rows).map_err(Fault::Rows)?;
     if !are_sized(rows, starts.len(), splits, workers) {
         return Err(Fault::Length);
     }

@@ -2,14 +2,14 @@
 ghost use Rattle.std.specs.Prelude.{◌≡◌, ◌≢◌, ◌↔◌, length, IfErr, IfOk, IsTrue, OnOk};
 ghost use Rattle.price_certificate.specs.Certificate.{claim, HasOneSize};
 ghost use Rattle.wave_planner.specs.Planned.{IsMadeOver};
-ghost use Rattle.wave_arrays.specs.Rows.{AreFit, narrow_rows, wave_in, wide_rows};
+ghost use Rattle.wave_arrays.specs.Rows.{narrow_rows, wave_in, wide_rows};
 ghost use Rattle.mrjob_c.specs.Status.{IsFaultOfPlan, IsPlanFit, IsSmall, TellsPlanFault};
 ghost use Rattle.mrjob_c.specs.Checks.{IsBestBy};
 ghost use Rattle.mrjob_c.specs.Plans.{IsPlanned, kind_in};
 
 use crate::status::{Fault, OK, are_sized, status_of};
 use flow_network::NetworkKind;
-use std::alloc::{AllocError, Global};
+use std::alloc::Global;
 use wave_arrays::{
     NarrowWave, WaveRows, WideWave, build_problem, test_rows, write_split_prices, write_starts,
     write_worker_prices,
@@ -153,10 +153,9 @@ fn plan_rows(
     ensures told { IfErr result (IsFaultOfPlan rows.now network sizes.0 sizes.1 sizes.2) }
 {
     let kind = kind_of(rows, network, sizes)?;
-    match plan_fit(alloc, rows, kind) {
-        Ok(planned) => Ok(planned),
-        Err(_) => Err(Fault::Memory),
-    }
+    let problem = build_problem(alloc, rows)?;
+    // (a direct network for too many splits or workers has been refused)
+    plan_with(alloc, &problem, kind).map_err(|_| Fault::Memory)
 }
 
 // The kind of network, where all else is in order too.
@@ -169,9 +168,7 @@ fn kind_of(
     ensures fit { OnOk result (IsPlanFit rows.now network sizes.0 sizes.1 sizes.2) }
     ensures told { IfErr result (IsFaultOfPlan rows.now network sizes.0 sizes.1 sizes.2) }
 {
-    if let Err(error) = test_rows(rows) {
-        return Err(Fault::Rows(error));
-    }
+    test_rows(rows).map_err(Fault::Rows)?;
     if !are_sized(rows, sizes.0, sizes.1, sizes.2) {
         return Err(Fault::Length);
     }
@@ -188,22 +185,4 @@ fn is_small(rows: &WaveRows<'_>) -> bool
 {
     rows.splits.len() <= direct_network::MAX_SPLITS
         && rows.workers.len() <= direct_network::MAX_WORKERS
-}
-
-fn plan_fit(alloc: Global, rows: &WaveRows<'_>, kind: NetworkKind) -> Result<Planned, AllocError>
-    requires { AreFit rows.now }
-    ensures over { IfOk result (λ planned.
-        IsMadeOver kind (wave_in rows.now) planned.plan.starts planned.prices) }
-    ensures best { IfOk result (λ planned.
-        IsBestBy (claim (wave_in rows.now) planned.plan.starts planned.prices)
-        planned.certified.count planned.certified.cost) }
-    ensures sizes { IfOk result (λ planned.
-        HasOneSize (claim (wave_in rows.now) planned.plan.starts planned.prices) planned.plan.workers) }
-{
-    let problem = build_problem(alloc, rows)?;
-    match plan_with(alloc, &problem, kind) {
-        Ok(planned) => Ok(planned),
-        // (a direct network for too many splits or workers has been refused)
-        Err(_) => Err(AllocError),
-    }
 }

@@ -1,7 +1,9 @@
 //! What a call answers where it writes nothing.
 ghost use Rattle.std.specs.Prelude.{◌≡◌, ◌≤◌, ◌↔◌, IsTrue};
 ghost use Rattle.mrjob_c.specs.Status.{AreSized, status_of};
+ghost use Rattle.mrjob_c.specs.declared.status.Fault.TheVariants.{Memory};
 
+use std::alloc::AllocError;
 use wave_arrays::{RowsError, WaveRows};
 
 pub(crate) const OK: u32 = 0;
@@ -23,6 +25,14 @@ pub(crate) enum Fault {
     Places,
     // There is no memory.
     Memory,
+}
+
+impl From<AllocError> for Fault {
+    ghost from_gives = { λ _ result. result ≡ Memory };
+
+    fn from(_: AllocError) -> Self {
+        Fault::Memory
+    }
 }
 
 // The number of a fault.
