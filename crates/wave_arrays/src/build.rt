@@ -55,21 +55,16 @@ fn centres_of(alloc: Global, numbers: &[u16]) -> Result<Vec<CentreNo>, AllocErro
 fn racks_of(alloc: Global, workers: &[WorkerRow]) -> Result<Vec<RackNo>, AllocError>
     ensures { IfOk result (λ racks. racks.items ≡ map (λ row. row.rack) workers.now) }
 {
-    let mut racks = Vec::with_capacity(alloc, workers.len())?;
-    for row in workers {
-        racks.push_reserved(RackNo::new(row.rack));
-    }
-    Ok(racks)
+    workers
+        .iter()
+        .map(|row| RackNo::new(row.rack))
+        .collect(alloc)
 }
 
 fn build_workers(alloc: Global, workers: &[WorkerRow]) -> Result<Vec<WorkerLine>, AllocError>
     ensures { IfOk result (λ lines. lines.items ≡ map worker_of workers.now) }
 {
-    let mut lines = Vec::with_capacity(alloc, workers.len())?;
-    for row in workers {
-        lines.push_reserved(worker_line(row));
-    }
-    Ok(lines)
+    workers.iter().map(|row| worker_line(row)).collect(alloc)
 }
 
 fn worker_line(row: &WorkerRow) -> WorkerLine
@@ -105,11 +100,10 @@ fn bar(set: &mut PairSet, pair: WidePairRow) -> Result<(), AllocError>
 fn numbered(alloc: Global, numbers: &[u16]) -> Result<Vec<WorkerNo>, AllocError>
     ensures { IfOk result (λ workers. workers.items ≡ numbers.now) }
 {
-    let mut workers = Vec::with_capacity(alloc, numbers.len())?;
-    for number in numbers {
-        workers.push_reserved(WorkerNo::new(*number));
-    }
-    Ok(workers)
+    numbers
+        .iter()
+        .map(|number| WorkerNo::new(*number))
+        .collect(alloc)
 }
 
 // A line for each split, whose holders are lent from the list of all.
@@ -121,11 +115,10 @@ fn build_splits<'h>(
     requires { All (IsSplitFit (length holders.now)) splits.now }
     ensures { IfOk result (λ lines. lines.items ≡ map (split_of holders.now) splits.now) }
 {
-    let mut lines = Vec::with_capacity(alloc, splits.len())?;
-    for row in splits {
-        lines.push_reserved(split_line(holders, row));
-    }
-    Ok(lines)
+    splits
+        .iter()
+        .map(|row| split_line(holders, row))
+        .collect(alloc)
 }
 
 fn split_line<'h>(holders: &'h [WorkerNo], row: &SplitRow) -> SplitRef<'h>

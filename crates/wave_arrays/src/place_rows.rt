@@ -37,12 +37,11 @@ pub fn are_places_fit(places: &PlaceRows<'_>, workers: usize) -> bool
 pub fn unfit_place_row(places: &PlaceRows<'_>) -> Option<usize>
     ensures { IsFirstUnfit (IsPlaceRowFit places.now.prices.now) places.now.rows.now result }
 {
-    for place in 0..places.rows.len() {
-        if !is_place_row_fit(places.prices, &places.rows[place]) {
-            return Some(place);
-        }
-    }
-    None
+    let prices = places.prices;
+    places
+        .rows
+        .iter()
+        .position(|row| !is_place_row_fit(prices, row))
 }
 
 fn is_place_row_fit(prices: &[u64], row: &PlaceRow) -> bool

@@ -14,12 +14,9 @@ pub fn unfit_rack(rows: &WaveRows<'_>) -> Option<usize>
     ensures { IsFirstUnfit (λ centre. centre < rows.now.centres) rows.now.centre_of.now result }
 {
     let centres = rows.centres;
-    for place in 0..rows.centre_of.len() {
-        if rows.centre_of[place] as usize >= centres {
-            return Some(place);
-        }
-    }
-    None
+    rows.centre_of
+        .iter()
+        .position(|centre| *centre as usize >= centres)
 }
 
 /// The first worker that stands in no rack or has too many slots.
@@ -27,12 +24,9 @@ pub fn unfit_worker(rows: &WaveRows<'_>) -> Option<usize>
     ensures { IsFirstUnfit (IsWorkerFit (length rows.now.centre_of.now)) rows.now.workers.now result }
 {
     let racks = rows.centre_of.len();
-    for place in 0..rows.workers.len() {
-        if !is_worker_fit(racks, &rows.workers[place]) {
-            return Some(place);
-        }
-    }
-    None
+    rows.workers
+        .iter()
+        .position(|row| !is_worker_fit(racks, row))
 }
 
 fn is_worker_fit(racks: usize, row: &WorkerRow) -> bool
@@ -46,12 +40,9 @@ pub fn unfit_split(rows: &WaveRows<'_>) -> Option<usize>
     ensures { IsFirstUnfit (IsSplitFit (length rows.now.holders.now)) rows.now.splits.now result }
 {
     let holders = rows.holders.len();
-    for place in 0..rows.splits.len() {
-        if !is_split_fit(holders, &rows.splits[place]) {
-            return Some(place);
-        }
-    }
-    None
+    rows.splits
+        .iter()
+        .position(|row| !is_split_fit(holders, row))
 }
 
 /// The first barred pair of no split or of no worker.
@@ -72,12 +63,9 @@ pub fn unfit_pair(rows: &WaveRows<'_>) -> Option<usize>
 pub fn unfit_holders(rows: &WaveRows<'_>) -> Option<usize>
     ensures { IsFirstUnfit (HasFitHolders rows.now) rows.now.splits.now result }
 {
-    for place in 0..rows.splits.len() {
-        if !has_fit_holders(rows, &rows.splits[place]) {
-            return Some(place);
-        }
-    }
-    None
+    rows.splits
+        .iter()
+        .position(|row| !has_fit_holders(rows, row))
 }
 
 fn has_fit_holders(rows: &WaveRows<'_>, row: &SplitRow) -> bool
@@ -90,10 +78,7 @@ fn has_fit_holders(rows: &WaveRows<'_>, row: &SplitRow) -> bool
 pub fn unfit_start(starts: &[u16], workers: usize) -> Option<usize>
     ensures { IsFirstUnfit (IsStartFit workers) starts.now result }
 {
-    for place in 0..starts.len() {
-        if !is_start_fit(starts[place], workers) {
-            return Some(place);
-        }
-    }
-    None
+    starts
+        .iter()
+        .position(|start| !is_start_fit(*start, workers))
 }
