@@ -7,8 +7,7 @@ use Rattle.std.proofs.lemmas.List.Elements.{All-nil, All-cons, All-head, All-tai
 use Rattle.flow_network.specs.declared.arcs.FlowArc.{FlowArc}
 use Rattle.flow_network.specs.declared.arcs.ArcNo.{ArcNo}
 use Rattle.flow_network.specs.declared.arcs.ArcNo.TheVariants.{Forward, Reverse}
-use Rattle.flow_network.specs.Flows.{IsResidual, IsPath, shifted, Lacks, WithinCapacities}
-use Rattle.flow_network.specs.Flows.{IsPushing}
+use Rattle.flow_network.specs.Flows.{IsResidual, IsPath, shifted, Lacks, WithinCapacities, IsPushing}
 use Rattle.flow_network.proofs.Balance.{room_stays, length-shifted}
 
 -- each arc of a path has room

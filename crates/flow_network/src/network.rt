@@ -167,8 +167,7 @@ impl<L: Layout> Network<L> {
             (outflow self.now.arcs self.now.flows v) }
     {
         let index = self.layout.index(node);
-        let gained = inflow_of(&self.arcs, &self.flows, index);
-        let given = outflow_of(&self.arcs, &self.flows, index);
+        let (gained, given) = flows_at(&self.arcs, &self.flows, index);
         gained as i64 - given as i64
     }
 
@@ -316,38 +315,24 @@ fn push_units(arcs: &[FlowArc], flows: &mut [u64], path: &[ArcNo])
     }
 }
 
-// What flows into a node.
-fn inflow_of(arcs: &[FlowArc], flows: &[u64], node: usize) -> u64
+// What flows into a node, and what flows out of it.
+fn flows_at(arcs: &[FlowArc], flows: &[u64], node: usize) -> (u64, u64)
     requires arcs { AreArcs 4096 arcs.now }
     requires limit { length arcs.now ≤ 1048576 }
     requires sizes { length flows.now ≡ length arcs.now }
     requires within { WithinCapacities arcs.now flows.now }
-    ensures sum { result ≡ inflow arcs.now flows.now node }
-    ensures bound { result ≤ 4096 * 1048576 }
+    ensures inflow { result.0 ≡ inflow arcs.now flows.now node }
+    ensures outflow { result.1 ≡ outflow arcs.now flows.now node }
+    ensures bound { (result.0 ≤ 4096 * 1048576) × (result.1 ≤ 4096 * 1048576) }
 {
-    let mut gained = 0;
+    let (mut gained, mut given) = (0, 0);
     for k in 0..arcs.len() {
         if arcs[k].to as usize == node {
             gained += flows[k];
         }
-    }
-    gained
-}
-
-// What flows out of a node.
-fn outflow_of(arcs: &[FlowArc], flows: &[u64], node: usize) -> u64
-    requires arcs { AreArcs 4096 arcs.now }
-    requires limit { length arcs.now ≤ 1048576 }
-    requires sizes { length flows.now ≡ length arcs.now }
-    requires within { WithinCapacities arcs.now flows.now }
-    ensures sum { result ≡ outflow arcs.now flows.now node }
-    ensures bound { result ≤ 4096 * 1048576 }
-{
-    let mut given = 0;
-    for k in 0..arcs.len() {
         if arcs[k].from as usize == node {
             given += flows[k];
         }
     }
-    given
+    (gained, given)
 }

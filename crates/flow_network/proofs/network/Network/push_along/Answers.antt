@@ -1,5 +1,4 @@
-use Rattle.std.proofs.Common.{ap, arith}
-use Rattle.std.proofs.lemmas.Grind.{common_steps}
+use Rattle.std.proofs.Common.{ap}
 use Rattle.flow_network.specs.Flow.{Flow}
 use Rattle.flow_network.proofs.Pushing.{residual_path}
 use Rattle.flow_network.proofs.network.Network.push_along.Goals as goal
@@ -10,9 +9,3 @@ push_units-requires-clause-residual g c =
     let flows = ap (λ (f : Flow g.row.L.Denot). f.flows) c.self.view_is in
     rw (c.deref.ensures.value, c.deref_mut.ensures.value, arcs, flows)
     (residual_path _ _ _ _ _ c.requires.path)
-
-pub invariant_of-self : goal.invariant_of-self
-invariant_of-self g c = grind (arith, common_steps)
-
-pub returns-clause-limits : goal.returns-clause-limits
-returns-clause-limits g c = grind (arith, common_steps)
