@@ -1,18 +1,15 @@
 -- The least paths to all nodes, which a search to no sink leaves.
-use Rattle.std.proofs.Common.{◌≡◌, ℕ, zero, suc, ◌+◌, ◌<◌, ◌≤◌, cond, leb, List, [], ◌∷◌, length, get_or}
-use Rattle.std.proofs.Common.{true, Option, Some, None, refl, sym, ap, ◌∙◌, subst}
-use Rattle.std.proofs.Common.{arith}
+use Rattle.std.proofs.Common.{◌≡◌, ℕ, zero, suc, ◌+◌, ◌<◌, ◌≤◌, cond, leb, List, [], ◌∷◌, length, get_or, true, Option}
+use Rattle.std.proofs.Common.{Some, None, refl, sym, ap, ◌∙◌, subst, arith}
 use Rattle.std.proofs.lemmas.Bool.{cases_lt, false≢true}
 use Rattle.std.specs.Prelude.{slice_index, is_some}
 use Rattle.flow_network.specs.declared.arcs.ArcNo.{ArcNo}
-use Rattle.flow_network.specs.Flows.{IsResidual, IsPath, IsDistinct, tail_of, head_of}
-use Rattle.flow_network.specs.Flows.{path_cost}
+use Rattle.flow_network.specs.Flows.{IsResidual, IsPath, IsDistinct, tail_of, head_of, path_cost}
 use Rattle.shortest_paths.specs.declared.arrival.Arrival.{Arrival}
 use Rattle.shortest_paths.specs.Search.{EndsSearch}
 use Rattle.shortest_paths.specs.Finding.{reached_at, found_at, paths_from, paths_of, AreTracedBack}
 use Rattle.shortest_paths.specs.Paths.{IsPriced, AreLeastPaths, option_distance, option_path}
-use Rattle.shortest_paths.specs.Searching.{Problem, Tables, distance_at, arrival_at, trace_to, rc}
-use Rattle.shortest_paths.specs.Searching.{IsSearching}
+use Rattle.shortest_paths.specs.Searching.{Problem, Tables, distance_at, arrival_at, trace_to, rc, IsSearching}
 use Rattle.shortest_paths.specs.ToSink.{far}
 use Rattle.shortest_paths.proofs.Costs.{residual_cost, reduced_bound}
 use Rattle.shortest_paths.proofs.Lowering.{steps_cost}

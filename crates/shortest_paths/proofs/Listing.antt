@@ -1,14 +1,12 @@
 -- The nodes that a search reached, as a list.
-use Rattle.std.proofs.Common.{◌≡◌, ℕ, zero, suc, ◌+◌, ◌-◌, ◌<◌, ◌≤◌, false, List, [], ◌∷◌, ◌++◌, length}
-use Rattle.std.proofs.Common.{get_or, set, sym, refl, ap, ◌∙◌, inl, inr, arith, get_or-set_same}
-use Rattle.std.proofs.Common.{get_or-set_other, length-set}
+use Rattle.std.proofs.Common.{◌≡◌, ℕ, zero, suc, ◌+◌, ◌-◌, ◌<◌, ◌≤◌, false, List, [], ◌∷◌, ◌++◌, length, get_or, set}
+use Rattle.std.proofs.Common.{sym, refl, ap, ◌∙◌, inl, inr, arith, get_or-set_same, get_or-set_other, length-set}
 use Rattle.std.proofs.lemmas.Bool.{cases_eq, false≢true}
 use Rattle.std.proofs.lemmas.List.Elements.{Contains-append_left, Contains-push, Contains-push_cases}
 use Rattle.shortest_paths.specs.declared.arrival.Arrival.{Arrival}
-use Rattle.shortest_paths.specs.Searching.{Tables, distance_at, arrival_at, ListsReached, IsLeft}
-use Rattle.shortest_paths.specs.Searching.{LeadsBack, trace_of}
-use Rattle.shortest_paths.specs.ToSink.{far}
+use Rattle.shortest_paths.specs.Searching.{Tables, distance_at, arrival_at, ListsReached, IsLeft, LeadsBack, trace_of}
 use Rattle.shortest_paths.specs.Searching.{is_settled}
+use Rattle.shortest_paths.specs.ToSink.{far}
 
 -- a node that is listed already is reached on a shorter way
 pub reached_again : (distances listed : List ℕ) (v x : ℕ) → distance_at distances v < far

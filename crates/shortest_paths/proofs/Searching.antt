@@ -16,8 +16,7 @@ use Rattle.flow_network.specs.declared.arcs.ArcNo.TheVariants.{Forward, Reverse}
 use Rattle.flow_network.specs.Flows.{AreArcs, NoNegative, tail_of, head_of, arc_index, IsResidual}
 use Rattle.flow_network.specs.Flow.{Counted}
 use Rattle.flow_network.proofs.Listed.{few_looks}
-use Rattle.flow_network.proofs.Members.{Contains-one, Contains-nil, Contains-here, Contains-there}
-use Rattle.flow_network.proofs.Members.{Contains-cons}
+use Rattle.flow_network.proofs.Members.{Contains-one, Contains-nil, Contains-here, Contains-there, Contains-cons}
 use Rattle.shortest_paths.specs.declared.arrival.Arrival.{Arrival}
 use Rattle.shortest_paths.specs.Lists.{ArcLists, AreResidualArcs, source_at, inner_at, matched_at}
 use Rattle.shortest_paths.specs.Lists.{option_arcs, sink_arcs_at, stack_arcs}
@@ -27,8 +26,7 @@ use Rattle.shortest_paths.specs.declared.query.Query.{Query}
 use Rattle.shortest_paths.specs.declared.search.Search.{Search}
 use Rattle.shortest_paths.specs.Search.{problem, tables, IsCursor, IsNextArc, Searches}
 use Rattle.shortest_paths.specs.ToSink.{far}
-use Rattle.shortest_paths.proofs.Arriving.{not_settled, falls, kept, set_to, reached_by, waits_near}
-use Rattle.shortest_paths.proofs.Arriving.{waits_far, covers}
+use Rattle.shortest_paths.proofs.Arriving.{not_settled, falls, kept, set_to, reached_by, waits_near, waits_far, covers}
 use Rattle.shortest_paths.proofs.Cursors.{moves, passed_own, popped}
 use Rattle.shortest_paths.proofs.Settled.{opened}
 

@@ -13,8 +13,7 @@ use Rattle.flow_network.proofs.Listed.{each_arc}
 use Rattle.flow_network.proofs.Members.{Contains-nil, Contains-here, Contains-one}
 use Rattle.std.proofs.lemmas.List.{length-map}
 use Rattle.shortest_paths.specs.declared.arrival.Arrival.{Arrival}
-use Rattle.shortest_paths.specs.Lists.{AreResidualArcs, source_at, inner_at, matched_at, sink_arcs_at}
-use Rattle.shortest_paths.specs.Lists.{stack_arcs}
+use Rattle.shortest_paths.specs.Lists.{AreResidualArcs, source_at, inner_at, matched_at, sink_arcs_at, stack_arcs}
 use Rattle.shortest_paths.specs.Searching.{is_settled, Problem, Tables, distance_at, arrival_at}
 use Rattle.shortest_paths.specs.Searching.{settled_number, AreReached, AreWaiting, IsSearching}
 use Rattle.shortest_paths.proofs.Arriving.{not_settled}

@@ -1,8 +1,7 @@
 -- The lists of each node's arcs, as they are made for a network without flow.
-use Rattle.std.proofs.Common.{◌≡◌, ℕ, ◌+◌, ◌<◌, ◌≤◌, Bool, cond, true, false, List, [], ◌∷◌, ◌++◌, length}
-use Rattle.std.proofs.Common.{get_or, set, Option, Some, None, refl, sym, ap, ◌∙◌, subst, inl, inr}
-use Rattle.std.proofs.Common.{arith, eqb, length-append, replicate, get_or-set_same, get_or-set_other}
-use Rattle.std.proofs.Common.{Contains}
+use Rattle.std.proofs.Common.{◌≡◌, ℕ, ◌+◌, ◌<◌, ◌≤◌, Bool, cond, true, false, List, [], ◌∷◌, ◌++◌, length, get_or, set}
+use Rattle.std.proofs.Common.{Option, Some, None, refl, sym, ap, ◌∙◌, subst, inl, inr, arith, eqb, length-append}
+use Rattle.std.proofs.Common.{replicate, get_or-set_same, get_or-set_other, Contains}
 use Rattle.std.proofs.lemmas.Bool.{cases_eq, eq-eqb, ne_eqb, false≢true}
 use Rattle.std.proofs.lemmas.List.{append-nil, append_assoc}
 use Rattle.std.specs.Prelude.{is_some, not, nat_eq}
@@ -13,8 +12,7 @@ use Rattle.flow_network.specs.declared.arcs.ArcNo.{ArcNo}
 use Rattle.flow_network.specs.declared.arcs.ArcNo.TheVariants.{Forward, Reverse}
 use Rattle.flow_network.specs.Flows.{arc_at, head_of, leaving_of, own_leaving}
 use Rattle.flow_network.proofs.Listing.{leaving_from-push}
-use Rattle.flow_network.proofs.Members.{Contains-here, Contains-there, Contains-cons, Contains-one}
-use Rattle.flow_network.proofs.Members.{replicated_at}
+use Rattle.flow_network.proofs.Members.{Contains-here, Contains-there, Contains-cons, Contains-one, replicated_at}
 use Rattle.shortest_paths.specs.Lists.{ArcLists, option_arcs}
 use Rattle.shortest_paths.specs.Matched.{AreMatched}
 use Rattle.shortest_paths.specs.Sorted.{LeadsToSource, AreSortedAt, AreListed, IsListed, back_numbers}

@@ -1,6 +1,5 @@
 -- What a search found, as its callers see it.
-use Rattle.std.specs.Prelude.{◌≡◌, ℕ, ◌<◌, ◌≤◌, cond, nat_le, List, [], ◌∷◌, length, suc, Option, Some, None}
-use Rattle.std.specs.Prelude.{IsSome}
+use Rattle.std.specs.Prelude.{◌≡◌, ℕ, ◌<◌, ◌≤◌, cond, nat_le, List, [], ◌∷◌, length, suc, Option, Some, None, IsSome}
 use Rattle.flow_network.specs.declared.arcs.ArcNo.{ArcNo}
 use Rattle.shortest_paths.specs.declared.arrival.Arrival.{Arrival}
 use Rattle.shortest_paths.specs.Searching.{Tables, distance_at, arrival_at, trace_to, IsLeft, LeadsBack}

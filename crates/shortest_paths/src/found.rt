@@ -60,6 +60,7 @@ impl Buffers {
     /// Searches for a least path from the start to the sink (Dijkstra's search over reduced costs). Arcs of
     /// reduced cost 0 are followed depth first, at once. Each arc is looked at at most once in each
     /// direction. Only memory can fail.
+    #[tactic(auto, using(crate::proofs::Finds::finds))]
     pub fn search<L: Layout>(self, meter: &mut Meter<L>, query: &Query) -> Result<Found, AllocError>
         requires may { MaySearch L.node_count meter.old.network query.now }
         requires count { meter.old.count ≡ 0 }

@@ -219,6 +219,7 @@ impl Search {
 
     // Settles a source, and looks over its arcs from the last on, so that what is added first, the highest
     // node, is gone on from first; whether the sink is entered next.
+    #[tactic(auto, using(crate::proofs::Searching::entered_inside))]
     fn scan<L: Layout>(
         &mut self,
         meter: &mut Meter<L>,

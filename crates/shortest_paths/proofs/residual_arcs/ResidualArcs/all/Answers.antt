@@ -1,5 +1,4 @@
-use Rattle.std.proofs.Common.{ap, ◌∙◌, arith}
-use Rattle.std.proofs.lemmas.Grind.{common_steps}
+use Rattle.std.proofs.Common.{ap, ◌∙◌}
 use Rattle.flow_network.specs.Flows.{AreArcs}
 use Rattle.shortest_paths.proofs.Kept.{all_residual}
 use Rattle.shortest_paths.proofs.residual_arcs.ResidualArcs.all.Goals as goal
@@ -13,6 +12,3 @@ returns-clause-residual g c =
     (c.in_ok-vec.ensures.items_if_clones_equal (λ _ e. e)) c.in_ok-no_sink_arcs.ensures
     c.in_ok-all_leaving.ensures.size c.in_ok-all_leaving.ensures.each
     c.in_ok-none_matched.ensures
-
-pub returns-clause-sized : goal.returns-clause-sized
-returns-clause-sized g c = grind (arith, common_steps)

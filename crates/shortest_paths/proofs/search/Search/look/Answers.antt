@@ -4,8 +4,7 @@ use Rattle.std.proofs.lemmas.List.Sorted.{length_permutation}
 use Rattle.shortest_paths.specs.Searching.{IsSearching, Tables}
 use Rattle.shortest_paths.specs.Search.{problem}
 use Rattle.shortest_paths.proofs.Searching.{no_way}
-use Rattle.shortest_paths.proofs.Looking.{is_open, may_look, node_inside, few_arcs, look_counts, seen_known}
-use Rattle.shortest_paths.proofs.Looking.{seen_near}
+use Rattle.shortest_paths.proofs.Looking.{is_open, may_look, node_inside, few_arcs, look_counts, seen_known, seen_near}
 use Rattle.shortest_paths.proofs.Looking.{seen_far}
 use Rattle.shortest_paths.proofs.search.Search.look.Goals as goal
 

@@ -1,7 +1,6 @@
 use Rattle.std.proofs.Common.{◌≡◌, ◌+◌, ◌-◌, ◌<◌, List, length, take, ap, ◌∙◌, sym, subst, arith, refl}
 use Rattle.std.proofs.Math.Seq.{take-length}
 use Rattle.std.proofs.lemmas.Bool.{false≢true}
-use Rattle.std.proofs.lemmas.Grind.{common_steps}
 use Rattle.flow_network.specs.declared.arcs.ArcNo.{ArcNo}
 use Rattle.flow_network.specs.Flow.{Flow}
 use Rattle.flow_network.specs.Flows.{leaving_of}
@@ -11,24 +10,6 @@ use Rattle.shortest_paths.proofs.Settled.{scanned}
 use Rattle.shortest_paths.proofs.Searching.{entered_inside, few_so_far, source_leads_on}
 use Rattle.shortest_paths.proofs.Looking.{next_arc_of}
 use Rattle.shortest_paths.proofs.search.Search.scan.Goals as goal
-
-pub index_mut-requires : goal.index_mut-requires
-index_mut-requires g c =
-    let inside = entered_inside c.requires.state.now in
-    let size = c.requires.state.now.reached.settled_size in
-    omega arith
-
-pub index_mut-requires-2 : goal.index_mut-requires-2
-index_mut-requires-2 g c =
-    let inside = entered_inside c.requires.state.now in
-    let size = c.requires.state.now.left_size in
-    omega arith
-
-pub leaving-arcs-requires : goal.leaving-arcs-requires
-leaving-arcs-requires g c =
-    let inside = entered_inside c.requires.state.now in
-    let size = c.requires.state.may.priced.size in
-    omega arith
 
 pub loop-i-init : goal.loop-i-init
 loop-i-init g c =
@@ -93,6 +74,3 @@ returns-clause-steps g c =
     let few = few_so_far c.loop-i.invariant.state.now in
     let same = ap (λ (f : Flow g.row.L.Denot). length f.arcs) c.loop-i.invariant.network in
     omega arith
-
-pub returns-clause-goes : goal.returns-clause-goes
-returns-clause-goes g c = grind (arith, common_steps)

@@ -1,5 +1,4 @@
 use Rattle.std.proofs.Common.{[], length, ap, ◌∙◌, sym, subst, arith}
-use Rattle.std.proofs.lemmas.Grind.{common_steps}
 use Rattle.shortest_paths.specs.Searching.{IsSearching, Tables}
 use Rattle.shortest_paths.specs.Search.{problem}
 use Rattle.shortest_paths.proofs.Searching.{few_so_far, popped_by, top_inside, turns}
@@ -39,6 +38,3 @@ returns-clause-goes g c =
 
 pub returns-clause-steps : goal.returns-clause-steps
 returns-clause-steps g c = let few = few_so_far c.requires.state.now in omega arith
-
-pub returns-clause-falls : goal.returns-clause-falls
-returns-clause-falls g c = grind (arith, common_steps)

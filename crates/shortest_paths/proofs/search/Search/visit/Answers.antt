@@ -1,5 +1,4 @@
 use Rattle.std.proofs.Common.{◌≡◌, ◌∙◌, sym, subst, arith}
-use Rattle.std.proofs.lemmas.Grind.{common_steps}
 use Rattle.std.specs.Prelude.{IfSome}
 use Rattle.shortest_paths.specs.Search.{problem}
 use Rattle.shortest_paths.proofs.Searching.{entered_inside, opened_with, sink_arc_own, few_so_far}
@@ -54,9 +53,3 @@ pub returns-in-None-clause-goes : goal.returns-in-None-clause-goes
 returns-in-None-clause-goes g c = λ rest s.
     opened_with s c.if-node-query.false c.requires.no_source c.in_ok-open.ensures
     (sym c.in-None.is ∙ c.sink_arc.ensures)
-
-pub returns-in_ok-found-in-Some-clause-spends : goal.returns-in_ok-found-in-Some-clause-spends
-returns-in_ok-found-in-Some-clause-spends g c = grind (arith, common_steps)
-
-pub returns-in-None-clause-spends : goal.returns-in-None-clause-spends
-returns-in-None-clause-spends g c = grind (arith, common_steps)
