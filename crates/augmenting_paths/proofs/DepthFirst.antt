@@ -10,11 +10,9 @@ use Rattle.flow_network.specs.declared.arcs.ArcNo.TheVariants.{Forward, Reverse}
 use Rattle.flow_network.specs.Flows.{arc_at, arc_index, tail_of, head_of, leaving_of}
 use Rattle.flow_network.proofs.Listed.{leaving_at}
 use Rattle.flow_network.proofs.Members.{Contains-map}
-use Rattle.shortest_paths.specs.Lists.{ArcLists, AreResidualArcs, sink_arcs_at, stack_arcs}
-use Rattle.shortest_paths.specs.Lists.{inner_at, matched_at}
+use Rattle.shortest_paths.specs.Lists.{ArcLists, AreResidualArcs, sink_arcs_at, stack_arcs, inner_at, matched_at}
 use Rattle.augmenting_paths.specs.DepthFirst.{GoesOn, IsClosed, IsOf, IsTrail}
-use Rattle.augmenting_paths.proofs.TightPath.{tight_push, tight_pop, GoesOver-push, GoesOver-before}
-use Rattle.augmenting_paths.proofs.TightPath.{GoesOver-last}
+use Rattle.augmenting_paths.proofs.TightPath.{tight_push, tight_pop, GoesOver-push, GoesOver-before, GoesOver-last}
 
 -- both ends of an arc are closed
 abbrev AreClosed : List FlowArc → List Bool → ℕ → Type 0

@@ -1,6 +1,5 @@
 -- What is asked of a network and its sources, source by source.
-use Rattle.std.proofs.Common.{ℕ, ◌<◌, List, length, get_or, sym}
-use Rattle.std.proofs.Common.{inl, inr, arith}
+use Rattle.std.proofs.Common.{ℕ, ◌<◌, List, length, get_or, sym, inl, inr, arith}
 use Rattle.std.proofs.lemmas.Bool.{cases_lt}
 use Rattle.flow_network.specs.declared.arcs.FlowArc.{FlowArc}
 use Rattle.flow_network.specs.Flows.{AreArcs}

@@ -5,8 +5,7 @@ use Rattle.std.proofs.lemmas.List.Elements.{Contains-append_left}
 use Rattle.flow_network.specs.declared.arcs.FlowArc.{FlowArc}
 use Rattle.flow_network.specs.declared.arcs.ArcNo.{ArcNo}
 use Rattle.flow_network.specs.declared.arcs.ArcNo.TheVariants.{Forward}
-use Rattle.flow_network.specs.Flows.{arc_at, arc_index, tail_of, head_of, Lacks, IsDistinct}
-use Rattle.flow_network.specs.Flows.{IsPath, IsResidual}
+use Rattle.flow_network.specs.Flows.{arc_at, arc_index, tail_of, head_of, Lacks, IsDistinct, IsPath, IsResidual}
 use Rattle.flow_network.proofs.Members.{Contains-here}
 use Rattle.flow_network.proofs.Paths.{IsPath-append}
 use Rattle.shortest_paths.specs.Lists.{ArcLists, AreResidualArcs, option_arcs, sink_arcs_at, stack_arcs}

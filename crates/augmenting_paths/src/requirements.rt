@@ -62,12 +62,7 @@ fn can_ship_over<L: Layout>(
 fn are_members<L: Layout>(layout: &L, nodes: &[L::Node]) -> bool
     ensures { IsTrue result ↔ AllPass (L.is_member layout.now) nodes.now }
 {
-    for node in nodes {
-        if !layout.holds(*node) {
-            return false;
-        }
-    }
-    true
+    nodes.iter().all(|node| layout.holds(*node))
 }
 
 // Whether nothing flows.
@@ -102,27 +97,20 @@ pub fn indices<L: Layout>(
 fn leads_on(arcs: &[FlowArc], units: usize, sink: usize, node: usize) -> bool
     ensures { IsTrue result ↔ LeadsOn arcs.now units sink node }
 {
-    for arc in arcs {
-        if arc.from as usize == node && arc.to as usize == sink && units <= arc.capacity as usize {
-            return true;
-        }
-    }
-    false
+    arcs.iter().any(|arc| {
+        arc.from as usize == node && arc.to as usize == sink && units <= arc.capacity as usize
+    })
 }
 
 // Whether the source has a path of two arcs to the sink.
 fn has_path(arcs: &[FlowArc], sources: &[usize], sink: usize, source: usize) -> bool
     ensures { IsTrue result ↔ HasPath arcs.now sources.now sink source }
 {
-    for arc in arcs {
-        if arc.from as usize == source
+    arcs.iter().any(|arc| {
+        arc.from as usize == source
             && arc.capacity > 0
             && leads_on(arcs, sources.len(), sink, arc.to as usize)
-        {
-            return true;
-        }
-    }
-    false
+    })
 }
 
 // Whether each source has a path of two arcs to the sink.
@@ -130,24 +118,16 @@ fn have_paths(arcs: &[FlowArc], sources: &[usize], sink: usize) -> bool
     ensures { IsTrue result ↔ ((k : ℕ) → k < length sources.now
         → HasPath arcs.now sources.now sink (slice_index sources.now k)) }
 {
-    for source in sources {
-        if !has_path(arcs, sources, sink, *source) {
-            return false;
-        }
-    }
-    true
+    sources
+        .iter()
+        .all(|source| has_path(arcs, sources, sink, *source))
 }
 
 // Whether an arc leads to the node.
 fn is_entered(arcs: &[FlowArc], node: usize) -> bool
     ensures { IsTrue result ↔ IsEntered arcs.now node }
 {
-    for arc in arcs {
-        if arc.to as usize == node {
-            return true;
-        }
-    }
-    false
+    arcs.iter().any(|arc| arc.to as usize == node)
 }
 
 // Whether a source stands before its place too.

@@ -1,5 +1,4 @@
-use Rattle.std.proofs.Common.{◌≡◌, ◌<◌, ℕ, List, length, get_or, take, true, ap, ◌∙◌}
-use Rattle.std.proofs.Common.{subst, length-set, arith}
+use Rattle.std.proofs.Common.{◌≡◌, ◌<◌, ℕ, List, length, get_or, take, true, ap, ◌∙◌, subst, length-set, arith}
 use Rattle.std.proofs.Math.Seq.{take-length}
 use Rattle.std.proofs.lemmas.List.{take_more}
 use Rattle.augmenting_paths.specs.Shipping.{AreMarked}

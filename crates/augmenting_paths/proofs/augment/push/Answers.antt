@@ -1,5 +1,4 @@
-use Rattle.std.proofs.Common.{ap, arith}
-use Rattle.std.proofs.lemmas.Grind.{common_steps}
+use Rattle.std.proofs.Common.{ap}
 use Rattle.flow_network.specs.Flow.{Flow}
 use Rattle.augmenting_paths.proofs.Shipped.{unit_path, unit_distinct, unit_listed, unit_shipped}
 use Rattle.augmenting_paths.proofs.augment.push.Goals as goal
@@ -23,6 +22,3 @@ pub returns-clause-state : goal.returns-clause-state
 returns-clause-state g c =
     rw (c.push.ensures.pushed, c.deref.ensures.value)
     (unit_shipped c.requires.next.can c.requires.next.left c.requires.found)
-
-pub push-requires-clause-some_arc : goal.push-requires-clause-some_arc
-push-requires-clause-some_arc g c = grind (arith, common_steps)

@@ -1,5 +1,4 @@
-use Rattle.std.proofs.Common.{◌≡◌, map, ap, ◌∙◌, arith}
-use Rattle.std.proofs.lemmas.Grind.{common_steps}
+use Rattle.std.proofs.Common.{◌≡◌, map, ap, ◌∙◌}
 use Rattle.augmenting_paths.proofs.augment.saturate.Goals as goal
 
 pub returns-clause-cheapest : goal.returns-clause-cheapest
@@ -11,9 +10,3 @@ returns-clause-cheapest g c =
     c.in_ok-starts.ensures
     ∙ ap (λ l. map (g.L.Layout.index_of l) c.args.sources.now) c.layout-2.ensures.value in
     rw (c.deref.ensures.value, starts, end) at c.ship_all.ensures.cheapest
-
-pub returns-clause-shipped : goal.returns-clause-shipped
-returns-clause-shipped g c = grind (arith, common_steps)
-
-pub ship_all-requires-clause-limit : goal.ship_all-requires-clause-limit
-ship_all-requires-clause-limit g c = grind (arith, common_steps)

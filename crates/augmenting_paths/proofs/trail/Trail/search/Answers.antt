@@ -1,5 +1,4 @@
 use Rattle.std.proofs.Common.{length, ap, ◌∙◌, arith, length-set}
-use Rattle.std.proofs.lemmas.Grind.{common_steps}
 use Rattle.shortest_paths.proofs.Costs.{head_in, tail_in}
 use Rattle.augmenting_paths.specs.declared.trail.Trail.{Trail}
 use Rattle.augmenting_paths.proofs.Shipped.{path_listed}
@@ -69,6 +68,3 @@ loop-turn-preserved g c =
             ) (trail_goes_back w.pop.new.self.items _ trail);
           }
     ]
-
-pub returns-then-top-query-clause-nodes : goal.returns-then-top-query-clause-nodes
-returns-then-top-query-clause-nodes g c = grind (arith, common_steps)

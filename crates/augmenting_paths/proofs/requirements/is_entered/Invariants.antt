@@ -1,6 +1,0 @@
-use Rattle.std.proofs.Common.{◌≡◌, ℕ, ◌<◌}
-use Rattle.flow_network.specs.Flows.{arc_at}
-use Rattle.augmenting_paths.proofs.requirements.is_entered.Given as goal
-
-abbrev pub invariant-loop-arc : goal.invariant-loop-arc
-invariant-loop-arc l = (j : ℕ) → j < l.arc-index → (arc_at l.arcs j).to ≡ l.node → ⊥
