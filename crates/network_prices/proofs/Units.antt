@@ -25,11 +25,7 @@ standing-set [] i v x l = absurd (omega arith)
 standing-set (p ∷ places) zero v x l = grind (arith, common_steps, sum_by-cons)
 standing-set (p ∷ places) (suc i) v x l = grind (arith, common_steps, sum_by-cons)
 
--- no unit moves
-pub none_moved : (places : List ℕ) (u v units : ℕ) → units ≡ 0 → IsMoved places places u v units
-none_moved places u v units e = grind arith
-
--- nor has any before the first place is looked at
+-- no unit has moved before the first place is looked at
 pub none_moving : (places : List ℕ) (u v units : ℕ) → units ≤ standing places u
     → IsMoving places places u v units units 0
 none_moving places u v units enough = record {
