@@ -1,6 +1,6 @@
 -- What a start costs, by the level at which its worker meets a live holder.
 use Rattle.std.proofs.Common.{◌≡◌, ℕ, zero, suc, ◌*◌, ◌<◌, ◌≤◌, Bool, true, false, min, List, [], ◌∷◌, length}
-use Rattle.std.proofs.Common.{get_or, map, filter, fold, Option, Some, refl, sym, ap, ◌∙◌, inl, inr, ◌⊎◌}
+use Rattle.std.proofs.Common.{get_or, map, filter, fold, Option, Some, refl, ap, ◌∙◌, inl, inr, ◌⊎◌}
 use Rattle.std.proofs.Common.{arith, unwrap_or, Contains, subst}
 use Rattle.std.specs.Prelude.{◌==◌}
 use Rattle.std.specs.Option.{option_map}
@@ -8,13 +8,12 @@ use Rattle.std.proofs.lemmas.Bool.{cases_Bool, cases_eq, cases_lt, eq-eqb, ne_eq
 use Rattle.std.proofs.lemmas.List.{get_or_default}
 use Rattle.std.proofs.Math.Nat.{mul-le-mul_left}
 use Rattle.std.proofs.lemmas.List.Elements.{All-contains, All-contains_itself, All-filter, filter_passes}
-use Rattle.std.proofs.lemmas.List.Elements.{Contains-get_or}
 use Rattle.flow_network.proofs.Members.{Contains-nil, Contains-here, Contains-there, Contains-cons}
 use Rattle.rack_tree.specs.Tree.{Tree, centre_at, distance}
 use Rattle.rack_tree.proofs.Distances.{distance_by, steps_by}
 use Rattle.wave_problem.specs.Sums.{least}
 use Rattle.wave_problem.specs.Wave.{Wave, split_at, worker_at, worker_in, live_holders, least_distance, cost}
-use Rattle.rack_network.specs.Racks.{above, IsHeldUnder, IsUnder}
+use Rattle.rack_network.specs.Racks.{above}
 
 -- the least of a list is one of its numbers, and no more than each of them
 least_from : (f : ℕ → ℕ) (xs : List ℕ) (a : ℕ) → ((fold min a (map f xs) ≡ a)
@@ -206,18 +205,3 @@ holder_of wave s h held =
     let kept = All-filter p (Contains (split_at wave s).holders) (split_at wave s).holders
     (All-contains_itself (split_at wave s).holders) in
     All-contains (Contains (split_at wave s).holders) (live_holders wave s) h kept held
-
--- a node is held under a holder's, and where no holder is under it, it is not
-pub held_under : (wave : Wave) (s level i k : ℕ) → k < length (split_at wave s).holders
-    → IsUnder wave (get_or (split_at wave s).holders k 0) level i → IsHeldUnder wave s level i
-held_under wave s level i k l under =
-    (get_or (split_at wave s).holders k 0, Contains-get_or (split_at wave s).holders k 0 l, under)
-
-pub none_held : (wave : Wave) (s level i n : ℕ) → length (split_at wave s).holders ≤ n
-    → ((k : ℕ) → k < n → IsUnder wave (get_or (split_at wave s).holders k 0) level i → ⊥)
-    → IsHeldUnder wave s level i → ⊥
-none_held wave s level i n all none held =
-    let at = held.1 in
-    let is = get_or_default (split_at wave s).holders at.0 0 held.0 at.1 ∙ at.2 in
-    let known = at.1 in
-    none at.0 (omega arith) (subst (λ (h : ℕ). IsUnder wave h level i) (sym is) held.2)

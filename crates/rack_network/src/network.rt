@@ -214,13 +214,10 @@ fn is_held_under(problem: &Problem, split: SplitNo, level: u8, number: usize) ->
     requires level { level < 4 }
     ensures { IsTrue result ↔ IsHeldUnder problem.now split level number }
 {
-    let holders = problem.holders(split);
-    for i in 0..holders.len() {
-        if is_under(problem, holders[i], level, number) {
-            return true;
-        }
-    }
-    false
+    problem
+        .holders(split)
+        .iter()
+        .any(|holder| is_under(problem, *holder, level, number))
 }
 
 // The same of one holder.
