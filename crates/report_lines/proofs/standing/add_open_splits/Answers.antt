@@ -1,20 +1,10 @@
-use Rattle.std.proofs.Common.{◌++◌, ◌≡◌, ◌∙◌, ap, rules, slice_index_or, string_bytes}
-use Rattle.std.proofs.lemmas.List.{get_or_default}
-use Rattle.master_state.specs.declared.states.SplitState.TheVariants.{Pending}
-use Rattle.text_lines.proofs.NumberedLines.{lines_more}
+use Rattle.std.proofs.Common.{rules}
 use Rattle.report_lines.specs.Standing.{open_split}
+use Rattle.report_lines.proofs.NumberedRows.{rows_more}
 use Rattle.report_lines.proofs.standing.add_open_splits.Goals as goal
 
 pub loop-number-preserved : goal.loop-number-preserved
 loop-number-preserved c =
-    let splits = c.args.splits.now in
-    let workers = c.args.workers.now in
-    let states = c.args.states.now in
-    let n = c.loop-number.number in
-    let state : c.index-states-number.result ≡ slice_index_or states n Pending =
-    c.index-states-number.is ∙ get_or_default states n _ Pending (search rules) in
-    lines_more (λ s. open_split splits workers s (slice_index_or states s Pending)) _ _ _ n c.loop-number.invariant
-    (c.in_ok-add_open_split.ensures
-    ∙ ap (λ split. string_bytes c.loop-number.lines ++ open_split splits workers split c.index-states-number.result)
-    c.new-split.ensures
-    ∙ ap (λ s. string_bytes c.loop-number.lines ++ open_split splits workers n s) state)
+    rows_more (open_split c.args.splits.now c.args.workers.now) c.args.states.now _ _ _ _ _ _ _
+    c.index-states-number.is c.new-split.ensures c.loop-number.invariant c.in_ok-add_open_split.ensures
+    (search rules)
