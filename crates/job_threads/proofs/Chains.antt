@@ -1,8 +1,7 @@
 -- The numbers below the next one, and steps of which an answer tells.
-use Rattle.std.proofs.Common.{◌≡◌, ℕ, ◌+◌, ◌-◌, ◌||◌, Bool, false, List, [], ◌∷◌, ◌++◌}
-use Rattle.std.proofs.Common.{add-one, ◌<◌, ◌⊎◌, ◌∙◌, ap, append_assoc, inl, inr, length, map, refl, subst}
-use Rattle.std.proofs.Common.{sym}
-use Rattle.std.proofs.Common.{Option, None, Some, Ok, Err, ◌==◌, get_or}
+use Rattle.std.proofs.Common.{◌≡◌, ℕ, ◌+◌, ◌-◌, ◌||◌, Bool, false, List, [], ◌∷◌, ◌++◌, add-one, ◌<◌, ◌⊎◌}
+use Rattle.std.proofs.Common.{◌∙◌, ap, append_assoc, inl, inr, length, map, refl, subst, sym, Some, Ok, Err}
+use Rattle.std.proofs.Common.{◌==◌, get_or}
 use Rattle.std.specs.Prelude.{slice_get, slice_index, slice_index_or, IfErr, IfOk, IsOk}
 use Rattle.std.specs.Prelude.{MatchResult, OnOk, not}
 use Rattle.std.specs.declared.result.Result.{Result}
@@ -10,11 +9,9 @@ use Rattle.std.proofs.lemmas.Grind.{get_or_default_zero}
 use Rattle.std.proofs.lemmas.List.{map-append}
 use Rattle.job_threads.specs.Chains.{EachBelow, OnlyIf}
 use Rattle.job_threads.specs.declared.holdings.Holding.{Holding}
-use Rattle.job_threads.specs.Holdings.{all_buried, buried, changed_at, has_risen}
-use Rattle.job_threads.specs.Holdings.{upto}
+use Rattle.job_threads.specs.Holdings.{all_buried, buried, changed_at, has_risen, upto}
 use Rattle.job_threads.specs.Steps.{IsBack, IsBackIf, IsBackedUp, IsBackedUpToo, IsMapStartSent, IsStartSent}
-use Rattle.job_threads.specs.Steps.{AreCopied, Follows, IsSwept, Known, Sent, known}
-use Rattle.job_threads.specs.Steps.{IsStepError, judged}
+use Rattle.job_threads.specs.Steps.{AreCopied, Follows, IsSwept, Known, Sent, known, judged}
 use Rattle.job_threads.specs.declared.outcome.RunError.{RunError}
 use Rattle.job_threads.specs.declared.outcome.RunError.TheVariants as ends
 use Rattle.job_threads.specs.Outcomes.{IsRecordOf}
@@ -150,16 +147,6 @@ swept_so setup target splits few told seen dead workers same hand answered answe
           (λ (ws : List Holding). Follows setup target few told dead (known ws answered) rose after)
           same_is follows));
     }
-
--- no step of the calling thread ends with the gate's limit
-pub not_limit : {T : Type 0} (given : Result T RunError) → IfErr given IsStepError →
-    given ≡ Err ends.GateLimit → ⊥
-not_limit (Ok x) err is = absurd cc
-not_limit (Err ends.GateLimit) err is = err
-not_limit (Err ends.Memory) err is = absurd cc
-not_limit (Err ends.HistoryFull) err is = absurd cc
-not_limit (Err (ends.Torn place)) err is = absurd cc
-not_limit (Err ends.NoThread) err is = absurd cc
 
 -- what holds of an answer that is the record of a master, or an error
 records_as : (last : Job) (given : Result Record RunError) →

@@ -1,9 +1,7 @@
 -- What the calling thread knows of the workers: what they hold, and which are dead or stopped.
-use Rattle.std.specs.Prelude.{ℕ, ◌+◌, ◌-◌, ◌^◌, ◌<◌, ◌↔◌, ◌&&◌, nat_lt, not, zero, suc, min, replicate}
-use Rattle.std.specs.Prelude.{Bool, true, false}
-use Rattle.std.specs.Prelude.{List, [], ◌∷◌, ◌++◌, Option, Some, None}
-use Rattle.std.specs.Prelude.{length, slice_index, slice_index_or}
-use Rattle.std.specs.Prelude.{count_by, slice_get, slice_set, IsTrue}
+use Rattle.std.specs.Prelude.{ℕ, ◌+◌, ◌-◌, ◌^◌, ◌<◌, ◌↔◌, ◌&&◌, nat_lt, not, zero, suc, min, replicate, Bool}
+use Rattle.std.specs.Prelude.{true, false, List, [], ◌∷◌, ◌++◌, Option, Some, None, length, slice_index}
+use Rattle.std.specs.Prelude.{slice_index_or, count_by, slice_get, slice_set, IsTrue}
 use Rattle.std.specs.List.{fold}
 use Rattle.node_ids.specs.Sets.{emptied, has_number, is_in_row, no_numbers, with_number}
 use Rattle.wave_problem.specs.Wave.{Split}

@@ -1,8 +1,7 @@
 -- The turns of the calling thread.
-use Rattle.std.specs.Prelude.{ℕ, ◌+◌, ◌-◌, ◌%◌, ◌^◌, ◌==◌, ◌&&◌, ◌||◌, nat_le, nat_lt, min, not, Bool}
-use Rattle.std.specs.Prelude.{◌≡◌, true, false, List, Option, Some, None}
+use Rattle.std.specs.Prelude.{ℕ, ◌+◌, ◌-◌, ◌%◌, ◌^◌, ◌==◌, ◌&&◌, ◌||◌, nat_le, nat_lt, min, not, Bool, ◌≡◌}
+use Rattle.std.specs.Prelude.{true, false, List, Option, Some, None, if◌then◌else◌}
 use Rattle.std.specs.List.{list_all}
-use Rattle.std.specs.Prelude.{if◌then◌else◌}
 use Rattle.master_state.specs.declared.answers.Glance.{Glance}
 use Rattle.job_threads.specs.declared.gate.Turn.{Turn}
 use Rattle.job_threads.specs.declared.gate.Turn.TheVariants.{On, Sweep, Backup}

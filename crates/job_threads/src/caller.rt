@@ -4,14 +4,14 @@ ghost use Rattle.job_threads.specs.declared.gate.Turn.{Turn};
 ghost use Rattle.job_threads.specs.declared.outcome.RunError.{RunError};
 ghost use Rattle.job_threads.specs.Holdings.{changed_at, stopped};
 ghost use Rattle.job_threads.specs.Steps.{AreBackedUp, EndsCalls, HasStarted, IsStepError, IsSwept};
-ghost use Rattle.job_threads.specs.Steps.{MayEndWith};
-ghost use Rattle.job_threads.specs.Steps.{known, progress_of, queues_of, sent};
+ghost use Rattle.job_threads.specs.Steps.{MayEndWith, known, progress_of, queues_of, sent};
 ghost use Rattle.job_threads.specs.Turns.{has_ended, idle_after, is_still, nap_micros, quiet_after};
 ghost use Rattle.job_threads.specs.Turns.{IsPastHelp, none_may_rise, quiet_swept};
 
-use crate::aim::{Aim, Queues, Silence, Target};
+use crate::aim::Aim;
 use crate::asking::Asked;
 use crate::beats::Watch;
+use crate::brief::Brief;
 use crate::common::{Common, Over};
 use crate::dead::Dead;
 use crate::gate::{Gate, NAPS_FROM, Turn};
@@ -19,11 +19,9 @@ use crate::holdings::{Holding, Holdings};
 use crate::lanes::LaneEnd;
 use crate::observer::{Observer, Progress};
 use crate::outcome::RunError;
-use crate::texts::Texts;
 use master_state::Glance;
 use node_ids::WorkerNo;
 use shared_master::{Hand, OfJob, SharedGlance};
-use std::alloc::Global;
 use std::rt::Clock;
 use std::sync::Wait;
 use std::sync::ledger::Ledger;
@@ -32,16 +30,14 @@ use std::time::{Duration, Instant};
 
 // What the calling thread has.
 #[derive(Drop)]
-pub(crate) struct Caller<'a, L: Ledger + OfJob + Aim> {
+pub(crate) struct Caller<'a, L: Ledger + OfJob + Aim, G: Gate, R> {
+    pub(crate) common: &'a Common<'a, L, G, R>,
     pub(crate) hand: Hand<L>,
     pub(crate) watch: Watch<'a, L>,
     pub(crate) dead: Dead<L>,
     pub(crate) lanes: Vec<LaneEnd<'a, L>>,
-    pub(crate) texts: Texts<L>,
+    pub(crate) brief: Brief<L>,
     pub(crate) holdings: Holdings,
-    pub(crate) target: Target<L>,
-    pub(crate) silence: Silence<L>,
-    pub(crate) queues: Queues<L>,
     // the greatest number of an attempt that was sent
     pub(crate) newest: u32,
     // in how many turns, one after the other, nothing started
@@ -62,89 +58,44 @@ pub(crate) enum CallEnd {
     Seen(Glance),
 }
 
-impl<'a, L: Ledger + OfJob + Aim> Caller<'a, L> {
+impl<'a, L: Ledger + OfJob + Aim, G: Gate, R: Wait + Clock> Caller<'a, L, G, R> {
     // Turn after turn, until the job is done or stuck, or something ends the run.
-    pub(crate) fn call<G: Gate, O: Observer, R: Wait + Clock>(
-        &mut self,
-        rt: &R,
-        alloc: Global,
-        common: &Common<'_, L, G>,
-        observer: &O,
-    ) -> Result<CallEnd, RunError>
+    pub(crate) fn call<O: Observer>(&mut self, observer: &O) -> Result<CallEnd, RunError>
         ensures ends { IfOk result (EndsCalls L.setup self.new.quiet) }
         ensures err { IfErr result (MayEndWith (G.may_end ≡ true)) }
     {
-        for _ in rt.forever() {
-            if let Some(over) = common.flags.seen_over() {
+        for _ in self.common.rt.forever() {
+            if let Some(over) = self.common.flags.seen_over() {
                 return Ok(CallEnd::Over(over));
             }
-            let seen = common.shared.glance(rt);
+            let seen = self.common.shared.glance(self.common.rt);
             let glance = seen.shown();
-            observer.seen(&self.progress(common, &glance));
+            observer.seen(&self.progress(&glance));
             if self.has_ended(&glance) {
                 return Ok(CallEnd::Seen(glance));
             }
-            self.turn(rt, alloc, common, &seen)?;
+            self.turn(&seen)?;
         }
         unreachable!()
     }
 
-    // How far the job is.
-    fn progress<G: Gate>(&self, common: &Common<'_, L, G>, glance: &Glance) -> Progress
-        ensures { result ≡ progress_of L.setup glance.now self.now.waves self.now.deaths }
-    {
-        Progress {
-            splits: self.texts.len(),
-            parts: common.parts,
-            open_splits: glance.open_splits,
-            open_parts: glance.open_parts,
-            waves: self.waves,
-            deaths: self.deaths,
-        }
-    }
-
-    // Whether all parts are done; or nothing ran, nothing could start and no dead worker rose through as many
-    // sweeps as a worker may be silent.
-    fn has_ended(&mut self, glance: &Glance) -> bool
-        ensures value { result ≡ has_ended glance.now self.new.quiet L.setup.cluster.silence }
-        ensures same { self.new ≡ record self.old { quiet = quiet_after self.old.quiet glance.now } }
-    {
-        let still = is_still(glance);
-        if !still {
-            self.quiet = 0;
-        }
-        glance.open_parts == 0 || still && self.silence.sweeps() <= self.quiet
-    }
-
     // Starts what may start, and does what the gate says.
-    fn turn<G: Gate, R: Wait + Clock>(
-        &mut self,
-        rt: &R,
-        alloc: Global,
-        common: &Common<'_, L, G>,
-        seen: &SharedGlance<L>,
-    ) -> Result<(), RunError>
+    fn turn(&mut self, seen: &SharedGlance<L>) -> Result<(), RunError>
         ensures started { OnOk result (HasStarted L.setup (queues_of L.setup L.ahead)
             (nat_lt 0 self.old.pause) seen.now (sent self.old.lanes.items self.old.hand)
             self.old.idle self.new.idle) }
         ensures err { IfErr result (MayEndWith (G.may_end ≡ true)) }
     {
-        let started = self.start(rt, alloc, common, seen)?;
+        let started = self.start(seen)?;
         self.count_idle(started);
-        self.rest(rt);
-        let asked = Asked::by(rt, common.gate, self.idle, self.watch.told_at);
-        self.act(rt, alloc, common, seen, &asked)
+        let common = self.common;
+        rest(common.rt, self.idle);
+        let asked = Asked::by(common.rt, common.gate, self.idle, self.watch.told_at);
+        self.act(seen, &asked)
     }
 
     // Does what the gate says.
-    fn act<G: Gate, R: Wait + Clock>(
-        &mut self,
-        rt: &R,
-        alloc: Global,
-        common: &Common<'_, L, G>,
-        seen: &SharedGlance<L>,
-        asked: &Asked,
-    ) -> Result<(), RunError>
+    fn act(&mut self, seen: &SharedGlance<L>, asked: &Asked) -> Result<(), RunError>
         requires { asked.now.idle ≡ self.old.idle }
         ensures idle { OnOk result ((self.new.idle ≡ self.old.idle) ⊎ (self.new.idle ≡ 0)) }
         ensures over { (result ≡ Err RunError.GateLimit) ↔ (asked.now.turn ≡ Turn.Over) }
@@ -162,11 +113,11 @@ impl<'a, L: Ledger + OfJob + Aim> Caller<'a, L> {
     {
         let glance = seen.shown();
         match asked.turn() {
-            Turn::On => self.sweep_on(rt, alloc, common, &glance, false),
-            Turn::Sweep => self.sweep_on(rt, alloc, common, &glance, asked.is_due()),
-            Turn::Backup => self.back_up_idle(rt, common),
+            Turn::On => self.sweep_on(&glance, false),
+            Turn::Sweep => self.sweep_on(&glance, asked.is_due()),
+            Turn::Backup => self.back_up_idle(),
             Turn::Stop(worker) => {
-                self.stop(common, worker);
+                self.stop(worker);
                 Ok(())
             }
             Turn::Over => Err(RunError::GateLimit),
@@ -174,32 +125,21 @@ impl<'a, L: Ledger + OfJob + Aim> Caller<'a, L> {
     }
 
     // Starts second attempts. If one started, the turn was not idle.
-    fn back_up_idle<G: Gate, R: Wait>(
-        &mut self,
-        rt: &R,
-        common: &Common<'_, L, G>,
-    ) -> Result<(), RunError>
+    fn back_up_idle(&mut self) -> Result<(), RunError>
         ensures backup { OnOk result (AreBackedUp L.setup
             (sent self.old.lanes.items self.old.hand) (sent self.new.lanes.items self.new.hand)
             self.old.idle self.new.idle) }
         ensures idle { OnOk result ((self.new.idle ≡ self.old.idle) ⊎ (self.new.idle ≡ 0)) }
         ensures err { IfErr result IsStepError }
     {
-        if self.back_up(rt, common)? {
+        if self.back_up()? {
             self.idle = 0;
         }
         Ok(())
     }
 
     // Sweeps where one is due, and at once where the job is past help, so that it is told stuck soon.
-    fn sweep_on<G: Gate, R: Wait + Clock>(
-        &mut self,
-        rt: &R,
-        alloc: Global,
-        common: &Common<'_, L, G>,
-        glance: &Glance,
-        due: bool,
-    ) -> Result<(), RunError>
+    fn sweep_on(&mut self, glance: &Glance, due: bool) -> Result<(), RunError>
         ensures swept { due ≡ true → OnOk result ((rose : Bool)
             × IsSwept L.setup L.target self.old.holdings.splits self.new.watch.told
             (known self.old.holdings.workers.items self.old.hand) rose
@@ -211,10 +151,39 @@ impl<'a, L: Ledger + OfJob + Aim> Caller<'a, L> {
         if !due && !self.is_past_help(glance) {
             return Ok(());
         }
-        self.watch.told_at = Instant::now(rt).ok();
-        let rose = self.sweep(rt, alloc, common)?;
+        self.watch.told_at = Instant::now(self.common.rt).ok();
+        let rose = self.sweep()?;
         self.count_quiet(is_still(glance), rose);
         Ok(())
+    }
+}
+
+impl<L: Ledger + OfJob + Aim, G: Gate, R> Caller<'_, L, G, R> {
+    // How far the job is.
+    fn progress(&self, glance: &Glance) -> Progress
+        ensures { result ≡ progress_of L.setup glance.now self.now.waves self.now.deaths }
+    {
+        Progress {
+            splits: self.brief.splits(),
+            parts: self.common.parts,
+            open_splits: glance.open_splits,
+            open_parts: glance.open_parts,
+            waves: self.waves,
+            deaths: self.deaths,
+        }
+    }
+
+    // Whether all parts are done; or nothing ran, nothing could start and no dead worker rose through as many
+    // sweeps as a worker may be silent.
+    fn has_ended(&mut self, glance: &Glance) -> bool
+        ensures value { result ≡ has_ended glance.now self.new.quiet L.setup.cluster.silence }
+        ensures same { self.new ≡ record self.old { quiet = quiet_after self.old.quiet glance.now } }
+    {
+        let still = is_still(glance);
+        if !still {
+            self.quiet = 0;
+        }
+        glance.open_parts == 0 || still && self.brief.silence() <= self.quiet
     }
 
     // Whether nothing runs and nothing can start, each dead worker was stopped, and each other worker has
@@ -253,22 +222,13 @@ impl<'a, L: Ledger + OfJob + Aim> Caller<'a, L> {
         }
     }
 
-    // Leaves the processor to the workers for a moment, in some of the idle turns. So many idle turns take
-    // some time, however fast one turn is.
-    fn rest<R: Clock>(&self, rt: &R) {
-        let micros = nap_micros(self.idle);
-        if micros > 0 {
-            thread::sleep(rt, Duration::from_micros(micros));
-        }
-    }
-
     // The worker never goes on, and never joins again.
-    fn stop<G: Gate>(&mut self, common: &Common<'_, L, G>, worker: WorkerNo)
+    fn stop(&mut self, worker: WorkerNo)
         ensures workers { self.new.holdings.workers.items
             ≡ changed_at stopped self.old.holdings.workers.items worker }
         ensures idle { self.new.idle ≡ self.old.idle }
     {
-        common.flags.stop(worker);
+        self.common.flags.stop(worker);
         self.holdings.stop(worker);
     }
 }
@@ -278,6 +238,15 @@ fn is_still(glance: &Glance) -> bool
     ensures { result ≡ is_still glance.now }
 {
     glance.running == 0 && !glance.ready && !glance.reducible
+}
+
+// Leaves the processor to the workers for a moment, in some of the idle turns. So many idle turns take
+// some time, however fast one turn is.
+fn rest<R: Clock>(rt: &R, idle: u64) {
+    let micros = nap_micros(idle);
+    if micros > 0 {
+        thread::sleep(rt, Duration::from_micros(micros));
+    }
 }
 
 // For how many microseconds the calling thread naps: at each 64th idle turn, and longer where there were

@@ -138,7 +138,9 @@ pub(crate) struct Over {
 
 // What all threads of a job share.
 #[derive(Drop)]
-pub(crate) struct Common<'a, L: Ledger + OfJob + Aim, G: Gate> {
+pub(crate) struct Common<'a, L: Ledger + OfJob + Aim, G: Gate, R> {
+    pub(crate) rt: &'a R,
+    pub(crate) alloc: Global,
     pub(crate) shared: &'a SharedMaster<L>,
     pub(crate) gate: &'a G,
     pub(crate) flags: Flags,
@@ -150,13 +152,14 @@ pub(crate) struct Common<'a, L: Ledger + OfJob + Aim, G: Gate> {
     ghost all: { length flags.workers.items ≡ length L.setup.cluster.slots },
 }
 
-impl<'a, L: Ledger + OfJob + Aim, G: Gate> Common<'a, L, G> {
+impl<'a, L: Ledger + OfJob + Aim, G: Gate, R> Common<'a, L, G, R> {
     pub(crate) fn new(
+        rt: &'a R,
         alloc: Global,
         shared: &'a SharedMaster<L>,
         gate: &'a G,
         parts: usize,
-    ) -> Result<Common<'a, L, G>, AllocError>
+    ) -> Result<Common<'a, L, G, R>, AllocError>
         requires some { 0 < parts }
         requires few { parts ≤ 64 }
         requires of_job { parts ≡ L.setup.cluster.parts }
@@ -164,6 +167,8 @@ impl<'a, L: Ledger + OfJob + Aim, G: Gate> Common<'a, L, G> {
         requires workers { length L.setup.cluster.slots ≤ 1024 }
     {
         Ok(Common {
+            rt,
+            alloc,
             shared,
             gate,
             flags: Flags::new(alloc, shared.sizes().workers)?,

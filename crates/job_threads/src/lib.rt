@@ -10,6 +10,7 @@
 mod aim;
 mod asking;
 mod beats;
+mod brief;
 mod caller;
 mod closing;
 mod common;
@@ -24,7 +25,6 @@ pub mod outcome;
 pub mod running;
 mod starting;
 mod sweeping;
-mod texts;
 mod threads;
 mod work;
 

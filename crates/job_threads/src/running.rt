@@ -9,8 +9,9 @@ ghost use Rattle.job_threads.specs.Closing.{AreCounted, AreHandedOver, first_pas
 ghost use Rattle.job_threads.specs.Settled.{ConcludesAs, no_hand};
 ghost use Rattle.job_threads.specs.declared.outcome.RunError.{RunError};
 
-use crate::aim::{Aim, Queues, Silence, Target};
+use crate::aim::Aim;
 use crate::beats::{Pulse, Watch};
+use crate::brief::Brief;
 use crate::caller::Caller;
 use crate::closing::{Closing, close};
 use crate::common::Common;
@@ -22,7 +23,6 @@ use crate::job::Job;
 use crate::lanes::{LaneEnd, Way, new_ways};
 use crate::observer::{Observer, Unobserved};
 use crate::outcome::{Outcome, Record, RunError};
-use crate::texts::Texts;
 use crate::threads::{Ended, run_threads};
 use crate::work::Worker;
 use beat_board::{Board, Maker};
@@ -185,11 +185,8 @@ struct Lines<'a, L: OfJob + Aim> {
 // What the calling thread is to know before there is a master.
 #[derive(Drop)]
 struct Aims<L: OfJob + Aim> {
-    texts: Texts<L>,
+    brief: Brief<L>,
     holdings: Holdings,
-    target: Target<L>,
-    silence: Silence<L>,
-    queues: Queues<L>,
     room: Limits,
     dead: Dead<L>,
 }
@@ -208,24 +205,18 @@ fn aims_of<L: OfJob + Aim>(
     ensures room { IfOk result (λ aims. aims.room ≡ room) }
     ensures err { IfErr result (λ e. e ≡ RunError.Memory) }
 {
-    let Ok(texts) = Texts::of(alloc, cluster.texts()) else {
+    let Ok(brief) = Brief::of(alloc, cluster, target, ahead) else {
         return Err(RunError::Memory);
     };
     let Ok(holdings) = Holdings::of(alloc, cluster) else {
-        return Err(RunError::Memory);
-    };
-    let Ok(queues) = Queues::of(alloc, cluster.slots(), ahead) else {
         return Err(RunError::Memory);
     };
     let Ok(dead) = Dead::new(alloc, cluster.slots().len()) else {
         return Err(RunError::Memory);
     };
     Ok(Aims {
-        texts,
+        brief,
         holdings,
-        target: Target::new(target),
-        silence: Silence::new(cluster.silence()),
-        queues,
         room,
         dead,
     })
@@ -239,7 +230,7 @@ fn run_shared<
     O: Observer,
     R: Threads + Wait + Clock + Sync,
 >(
-    rt: &R,
+    rt: &'a R,
     alloc: Global,
     shared: &'a SharedMaster<L>,
     gate: &'a G,
@@ -254,15 +245,12 @@ fn run_shared<
     requires gate { G.may_end ≡ L.may_end }
     ensures err { IfErr result (λ e. (e ≡ RunError.Memory) ⊎ (e ≡ RunError.Torn 0)) }
 {
-    let Ok(common) = Common::new(alloc, shared, gate, parts) else {
+    let Ok(common) = Common::new(rt, alloc, shared, gate, parts) else {
         return Err(RunError::Memory);
     };
     let Aims {
-        texts,
+        brief,
         holdings,
-        target,
-        silence,
-        queues,
         room,
         dead,
     } = aims;
@@ -271,17 +259,15 @@ fn run_shared<
         ways,
         passes,
     } = lines;
-    let hand = hand_of(rt, alloc, shared, room)?;
+    let hand = hand_of(&common, room)?;
     let mut caller = Caller {
+        common: &common,
         hand,
         watch,
         dead,
         lanes: Vec::new(alloc),
-        texts,
+        brief,
         holdings,
-        target,
-        silence,
-        queues,
         newest: 0,
         idle: 0,
         pause: 0,
@@ -289,8 +275,8 @@ fn run_shared<
         waves: 0,
         deaths: 0,
     };
-    let all = make_workers(rt, alloc, shared, &mut caller, ways, passes)?;
-    let Ok(ended) = run_threads(rt, alloc, &common, caller, all, observer) else {
+    let all = make_workers(&mut caller, ways, passes)?;
+    let Ok(ended) = run_threads(&common, caller, all, observer) else {
         return Err(RunError::Memory);
     };
     Ok(ended)
@@ -357,16 +343,14 @@ fn full_or_torn(settled: Result<Master, RunError>) -> RunError
     }
 }
 
-fn hand_of<L: Ledger + OfJob, R: Wait>(
-    rt: &R,
-    alloc: Global,
-    shared: &SharedMaster<L>,
+fn hand_of<L: Ledger + OfJob + Aim, G: Gate, R: Wait>(
+    common: &Common<'_, L, G, R>,
     room: Limits,
 ) -> Result<Hand<L>, RunError>
     ensures hand { IfOk result (λ hand. hand ≡ new_hand (length L.setup.cluster.slots) room) }
     ensures err { IfErr result (λ e. (e ≡ RunError.Memory) ⊎ (e ≡ RunError.Torn 0)) }
 {
-    match shared.hand(rt, alloc, room) {
+    match common.shared.hand(common.rt, common.alloc, room) {
         Ok(hand) => Ok(hand),
         Err(error) => Err(no_hand(error)),
     }
@@ -384,11 +368,8 @@ fn no_hand(error: HandError) -> RunError
 }
 
 // What each worker is given, in the order of their numbers; the caller keeps the other ends of the lanes.
-fn make_workers<'a, L: Ledger + OfJob + Aim, R: Wait>(
-    rt: &R,
-    alloc: Global,
-    shared: &SharedMaster<L>,
-    caller: &mut Caller<'a, L>,
+fn make_workers<'a, L: Ledger + OfJob + Aim, G: Gate, R: Wait>(
+    caller: &mut Caller<'a, L, G, R>,
     ways: &'a [Way],
     passes: Vec<Pass>,
 ) -> Result<Vec<Worker<'a, L>>, RunError>
@@ -401,11 +382,11 @@ fn make_workers<'a, L: Ledger + OfJob + Aim, R: Wait>(
         ≡ map (λ lane. lane.lane) caller.old.lanes.items ++ map (λ worker. worker.orders.lane) all.items) }
     ensures err { IfErr result (λ e. (e ≡ RunError.Memory) ⊎ (e ≡ RunError.Torn 0)) }
 {
-    let mut all = Vec::new(alloc);
+    let mut all = Vec::new(caller.common.alloc);
     for pass in passes {
         let number = all.len();
         let worker = WorkerNo::new(number as u16);
-        let made = make_worker(rt, alloc, shared, caller, &ways[number], worker, pass)?;
+        let made = make_worker(caller, &ways[number], worker, pass)?;
         if all.push(made).is_err() {
             return Err(RunError::Memory);
         }
@@ -413,11 +394,8 @@ fn make_workers<'a, L: Ledger + OfJob + Aim, R: Wait>(
     Ok(all)
 }
 
-fn make_worker<'a, L: Ledger + OfJob + Aim, R: Wait>(
-    rt: &R,
-    alloc: Global,
-    shared: &SharedMaster<L>,
-    caller: &mut Caller<'a, L>,
+fn make_worker<'a, L: Ledger + OfJob + Aim, G: Gate, R: Wait>(
+    caller: &mut Caller<'a, L, G, R>,
     way: &'a Way,
     number: WorkerNo,
     pass: Pass,
@@ -429,7 +407,7 @@ fn make_worker<'a, L: Ledger + OfJob + Aim, R: Wait>(
         ≡ map (λ lane. lane.lane) caller.old.lanes.items ++ worker.orders.lane ∷ []) }
     ensures err { IfErr result (λ e. (e ≡ RunError.Memory) ⊎ (e ≡ RunError.Torn 0)) }
 {
-    let hand = hand_of(rt, alloc, shared, WORKER_ROOM)?;
+    let hand = hand_of(caller.common, WORKER_ROOM)?;
     let Ok((orders, pulse)) = ends_of(caller, way, number, pass) else {
         return Err(RunError::Memory);
     };
@@ -441,8 +419,8 @@ fn make_worker<'a, L: Ledger + OfJob + Aim, R: Wait>(
 }
 
 // A worker's end of its lane, and its seat.
-fn ends_of<'a, L: Ledger + OfJob + Aim>(
-    caller: &mut Caller<'a, L>,
+fn ends_of<'a, L: Ledger + OfJob + Aim, G: Gate, R>(
+    caller: &mut Caller<'a, L, G, R>,
     way: &'a Way,
     worker: WorkerNo,
     pass: Pass,

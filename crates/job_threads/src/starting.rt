@@ -1,5 +1,4 @@
-ghost use Rattle.std.specs.Prelude.{◌≡◌, ◌+◌, ◌^◌, ◌<◌, ◌≤◌, All, IfErr, IfOk, IsTrue, length, max};
-ghost use Rattle.std.specs.Prelude.{nat_lt};
+ghost use Rattle.std.specs.Prelude.{◌≡◌, ◌+◌, ◌^◌, ◌<◌, ◌≤◌, All, IfErr, IfOk, IsTrue, length, max, nat_lt};
 ghost use Rattle.std.specs.Prelude.{false, if◌then◌else◌};
 ghost use Rattle.lane_queue.specs.Orders.{attempt_of};
 ghost use Rattle.job_threads.specs.Chains.{EachBelow};
@@ -8,7 +7,8 @@ ghost use Rattle.job_threads.specs.Steps.{IsMapStartSent, IsReduceStarted, IsSen
 ghost use Rattle.job_threads.specs.Steps.{PlansAs, Starts, StartsWave, queues_of, sent};
 ghost use Rattle.shared_master.specs.Waves.{IsMapStart, WavesAs};
 
-use crate::aim::{Aim, Queues};
+use crate::aim::Aim;
+use crate::brief::Brief;
 use crate::caller::Caller;
 use crate::common::{Common, judge, judge_why};
 use crate::gate::Gate;
@@ -17,22 +17,15 @@ use lane_queue::Order;
 use master_state::{Answer, Start, Why, Work};
 use node_ids::{AttemptNo, SplitNo, WorkerNo};
 use shared_master::{Hand, OfJob, SharedGlance, SharedWave, WaveError};
-use std::alloc::Global;
 use std::sync::ledger::Ledger;
 use std::sync::{Arc, Wait};
 
 // For how many turns no wave is planned after a lane was full: the next would start the same attempt.
 const PAUSE_TURNS: u32 = 1024;
 
-impl<'a, L: Ledger + OfJob + Aim> Caller<'a, L> {
+impl<'a, L: Ledger + OfJob + Aim, G: Gate, R: Wait> Caller<'a, L, G, R> {
     // Starts what may start by a glance: whether an order is in a lane.
-    pub(crate) fn start<G: Gate, R: Wait>(
-        &mut self,
-        rt: &R,
-        alloc: Global,
-        common: &Common<'_, L, G>,
-        seen: &SharedGlance<L>,
-    ) -> Result<bool, RunError>
+    pub(crate) fn start(&mut self, seen: &SharedGlance<L>) -> Result<bool, RunError>
         ensures starts { IfOk result (λ started. Starts L.setup (queues_of L.setup L.ahead)
             (nat_lt 0 self.old.pause) seen.now (sent self.old.lanes.items self.old.hand) started
             (sent self.new.lanes.items self.new.hand)) }
@@ -45,22 +38,16 @@ impl<'a, L: Ledger + OfJob + Aim> Caller<'a, L> {
         }
         let glance = seen.shown();
         if glance.ready {
-            self.start_wave(rt, alloc, common, seen)
+            self.start_wave(seen)
         } else if glance.reducible {
-            self.start_reduce(rt, alloc, common, seen)
+            self.start_reduce(seen)
         } else {
             Ok(false)
         }
     }
 
     // Plans a wave, and sends its orders; none where a plan ahead waits.
-    fn start_wave<G: Gate, R: Wait>(
-        &mut self,
-        rt: &R,
-        alloc: Global,
-        common: &Common<'_, L, G>,
-        _seen: &SharedGlance<L>,
-    ) -> Result<bool, RunError>
+    fn start_wave(&mut self, _seen: &SharedGlance<L>) -> Result<bool, RunError>
         requires { IsTrue _seen.now.ready }
         ensures starts { IfOk result (λ started. StartsWave L.setup (queues_of L.setup L.ahead)
             (sent self.old.lanes.items self.old.hand) started
@@ -68,17 +55,10 @@ impl<'a, L: Ledger + OfJob + Aim> Caller<'a, L> {
         ensures idle { self.new.idle ≡ self.old.idle }
         ensures err { IfErr result IsStepError }
     {
-        match plan(
-            rt,
-            alloc,
-            common,
-            &mut self.hand,
-            &self.queues,
-            self.waves == 0,
-        ) {
+        match plan(self.common, &mut self.hand, &self.brief, self.waves == 0) {
             Ok(Some(wave)) => {
                 self.waves = self.waves.saturating_add(1);
-                self.send_wave(rt, common, &wave)
+                self.send_wave(&wave)
             }
             Ok(None) => Ok(false),
             Err(WaveError::Memory) => Err(RunError::Memory),
@@ -88,12 +68,7 @@ impl<'a, L: Ledger + OfJob + Aim> Caller<'a, L> {
     }
 
     // Sends the orders of a wave, each as the attempt after that of the one before it.
-    fn send_wave<G: Gate, R: Wait>(
-        &mut self,
-        rt: &R,
-        common: &Common<'_, L, G>,
-        wave: &SharedWave,
-    ) -> Result<bool, RunError>
+    fn send_wave(&mut self, wave: &SharedWave) -> Result<bool, RunError>
         requires attempts { wave.now.wave.first + length wave.now.starts.items < 2 ^ 32 }
         requires maps { All (IsMapStart L.setup) wave.now.starts.items }
         ensures sends { IfOk result (λ started. AreStartsSent wave.now L.setup.cluster.texts
@@ -106,19 +81,13 @@ impl<'a, L: Ledger + OfJob + Aim> Caller<'a, L> {
         let first = wave.wave.first.index();
         for place in 0..wave.starts.len() {
             let attempt = AttemptNo::new((first + place) as u32);
-            started |= self.send_start(rt, common, attempt, &wave.starts[place])?;
+            started |= self.send_start(attempt, &wave.starts[place])?;
         }
         Ok(started)
     }
 
     // Sends the order of a wave's start.
-    fn send_start<G: Gate, R: Wait>(
-        &mut self,
-        rt: &R,
-        common: &Common<'_, L, G>,
-        attempt: AttemptNo,
-        start: &Start,
-    ) -> Result<bool, RunError>
+    fn send_start(&mut self, attempt: AttemptNo, start: &Start) -> Result<bool, RunError>
         requires { IsMapStart L.setup start.now }
         ensures sends { IfOk result (λ put. IsMapStartSent L.setup.cluster.texts attempt start.now put
             self.old.lanes.items self.old.hand self.new.lanes.items self.new.hand) }
@@ -126,16 +95,14 @@ impl<'a, L: Ledger + OfJob + Aim> Caller<'a, L> {
         ensures err { IfErr result IsStepError }
     {
         match start.work {
-            Work::Split(split) => self.send_map(rt, common, attempt, split, start.worker),
+            Work::Split(split) => self.send_map(attempt, split, start.worker),
             Work::Part(_) => unreachable!(),
         }
     }
 
     // Sends a map attempt of a split to a worker.
-    fn send_map<G: Gate, R: Wait>(
+    fn send_map(
         &mut self,
-        rt: &R,
-        common: &Common<'_, L, G>,
         attempt: AttemptNo,
         split: SplitNo,
         worker: WorkerNo,
@@ -145,24 +112,18 @@ impl<'a, L: Ledger + OfJob + Aim> Caller<'a, L> {
         ensures idle { self.new.idle ≡ self.old.idle }
         ensures err { IfErr result IsStepError }
     {
-        let Some(text) = self.texts.get(split) else {
+        let Some(text) = self.brief.text(split) else {
             return Err(RunError::Torn(0));
         };
         let Ok(text) = Arc::try_clone(text) else {
             return Err(RunError::Memory);
         };
-        self.send(rt, common, worker, Order::Map(attempt, text))
+        self.send(worker, Order::Map(attempt, text))
     }
 
     // Puts an order into a worker's lane: whether it is there. Where the lane is full, its attempt is
     // withdrawn, and no wave is planned for some turns.
-    fn send<G: Gate, R: Wait>(
-        &mut self,
-        rt: &R,
-        common: &Common<'_, L, G>,
-        worker: WorkerNo,
-        order: Order,
-    ) -> Result<bool, RunError>
+    fn send(&mut self, worker: WorkerNo, order: Order) -> Result<bool, RunError>
         ensures order { IfOk result (λ put. IsSent worker order put
             self.old.lanes.items self.old.hand self.new.lanes.items self.new.hand) }
         ensures pause { IfOk result (λ put. self.new.pause ≡ (if put then self.old.pause else 1024)) }
@@ -174,24 +135,21 @@ impl<'a, L: Ledger + OfJob + Aim> Caller<'a, L> {
         let Some(lane) = self.lanes.get_mut(worker.index()) else {
             return Err(RunError::Torn(0));
         };
-        let Err(full) = lane.put(rt, order) else {
+        let Err(full) = lane.put(self.common.rt, order) else {
             return Ok(true);
         };
         self.pause = PAUSE_TURNS;
         let attempt = full.order.attempt();
-        let answer = common.shared.withdraw(rt, &mut self.hand, attempt);
+        let answer = self
+            .common
+            .shared
+            .withdraw(self.common.rt, &mut self.hand, attempt);
         judge(answer, &self.hand)?;
         Ok(false)
     }
 
     // Starts a reduce attempt: whether its order is in a lane.
-    fn start_reduce<G: Gate, R: Wait>(
-        &mut self,
-        rt: &R,
-        alloc: Global,
-        common: &Common<'_, L, G>,
-        _seen: &SharedGlance<L>,
-    ) -> Result<bool, RunError>
+    fn start_reduce(&mut self, _seen: &SharedGlance<L>) -> Result<bool, RunError>
         requires { IsTrue _seen.now.reducible }
         ensures starts { IfOk result (λ started. IsReduceStarted L.setup
             (sent self.old.lanes.items self.old.hand) started
@@ -199,10 +157,14 @@ impl<'a, L: Ledger + OfJob + Aim> Caller<'a, L> {
         ensures idle { self.new.idle ≡ self.old.idle }
         ensures err { IfErr result IsStepError }
     {
-        match common.shared.reduce_start(rt, alloc, &mut self.hand) {
+        let common = self.common;
+        match common
+            .shared
+            .reduce_start(common.rt, common.alloc, &mut self.hand)
+        {
             Answer::Accepted(_, reply) => {
                 let order = Order::Reduce(reply.attempt, reply.part, reply.runs);
-                self.send(rt, common, reply.worker, order)
+                self.send(reply.worker, order)
             }
             Answer::Ignored(Why::Memory, ()) => Err(RunError::Memory),
             Answer::Ignored(why, ()) => {
@@ -214,11 +176,7 @@ impl<'a, L: Ledger + OfJob + Aim> Caller<'a, L> {
 
     // A second attempt for each split of which one may start: whether an order is in a lane. It looks at the
     // master once for each split, once in 65,536 idle turns under the plain gate.
-    pub(crate) fn back_up<G: Gate, R: Wait>(
-        &mut self,
-        rt: &R,
-        common: &Common<'_, L, G>,
-    ) -> Result<bool, RunError>
+    pub(crate) fn back_up(&mut self) -> Result<bool, RunError>
         ensures backup { IfOk result (λ started. EachBelow (IsBackedUpToo L.setup)
             (length L.setup.cluster.splits) (sent self.old.lanes.items self.old.hand, false)
             (sent self.new.lanes.items self.new.hand, started)) }
@@ -226,20 +184,15 @@ impl<'a, L: Ledger + OfJob + Aim> Caller<'a, L> {
         ensures err { IfErr result IsStepError }
     {
         let mut started = false;
-        let splits = common.shared.sizes().splits;
+        let splits = self.common.shared.sizes().splits;
         for split in 0..splits {
-            started |= self.back_up_split(rt, common, SplitNo::new(split as u32))?;
+            started |= self.back_up_split(SplitNo::new(split as u32))?;
         }
         Ok(started)
     }
 
     // On the lowest worker on which it may start.
-    fn back_up_split<G: Gate, R: Wait>(
-        &mut self,
-        rt: &R,
-        common: &Common<'_, L, G>,
-        split: SplitNo,
-    ) -> Result<bool, RunError>
+    fn back_up_split(&mut self, split: SplitNo) -> Result<bool, RunError>
         requires { split < length L.setup.cluster.splits }
         ensures backup { IfOk result (λ started. IsBackedUp L.setup split
             (sent self.old.lanes.items self.old.hand) started
@@ -247,21 +200,19 @@ impl<'a, L: Ledger + OfJob + Aim> Caller<'a, L> {
         ensures idle { self.new.idle ≡ self.old.idle }
         ensures err { IfErr result IsStepError }
     {
-        let _ = common.shared.sizes();
-        let Some(worker) = common.shared.backup_worker(rt, split) else {
+        let _ = self.common.shared.sizes();
+        let Some(worker) = self.common.shared.backup_worker(self.common.rt, split) else {
             return Ok(false);
         };
-        let Some(attempt) = self.ask_backup(rt, common, split, worker)? else {
+        let Some(attempt) = self.ask_backup(split, worker)? else {
             return Ok(false);
         };
-        self.send_map(rt, common, attempt, split, worker)
+        self.send_map(attempt, split, worker)
     }
 
     // Asks for a second attempt of a split on a worker.
-    fn ask_backup<G: Gate, R: Wait>(
+    fn ask_backup(
         &mut self,
-        rt: &R,
-        common: &Common<'_, L, G>,
         split: SplitNo,
         worker: WorkerNo,
     ) -> Result<Option<AttemptNo>, RunError>
@@ -272,8 +223,12 @@ impl<'a, L: Ledger + OfJob + Aim> Caller<'a, L> {
         ensures same { self.new ≡ record self.old { hand = self.new.hand } }
         ensures err { IfErr result IsStepError }
     {
+        let common = self.common;
         let _ = common.shared.sizes();
-        match common.shared.backup(rt, &mut self.hand, split, worker) {
+        match common
+            .shared
+            .backup(common.rt, &mut self.hand, split, worker)
+        {
             Answer::Accepted(_, attempt) => Ok(Some(attempt)),
             Answer::Ignored(why, ()) => {
                 judge_why(why, &self.hand)?;
@@ -285,35 +240,32 @@ impl<'a, L: Ledger + OfJob + Aim> Caller<'a, L> {
 
 // Plans a wave, or ahead where the job has queues, and commits it; none where a plan ahead waits.
 fn plan<L: Ledger + OfJob + Aim, G: Gate, R: Wait>(
-    rt: &R,
-    alloc: Global,
-    common: &Common<'_, L, G>,
+    common: &Common<'_, L, G, R>,
     hand: &mut Hand<L>,
-    queues: &Queues<L>,
+    brief: &Brief<L>,
     is_first: bool,
 ) -> Result<Option<SharedWave>, WaveError>
     ensures { PlansAs L.setup (queues_of L.setup L.ahead) hand.old result hand.new }
 {
-    match queues.places() {
-        Some(places) => common.shared.start_ahead(rt, alloc, hand, places),
-        None => Ok(Some(plan_wave(rt, alloc, common, hand, is_first)?)),
+    let shared = common.shared;
+    match brief.places() {
+        Some(places) => shared.start_ahead(common.rt, common.alloc, hand, places),
+        None => Ok(Some(plan_wave(common, hand, is_first)?)),
     }
 }
 
 // Plans and commits a wave. The first one places all splits, so it is planned while the lock is free. Each
 // later one goes on from the engine that the master keeps, which takes less time than a copy of the problem.
 fn plan_wave<L: Ledger + OfJob + Aim, G: Gate, R: Wait>(
-    rt: &R,
-    alloc: Global,
-    common: &Common<'_, L, G>,
+    common: &Common<'_, L, G, R>,
     hand: &mut Hand<L>,
     is_first: bool,
 ) -> Result<SharedWave, WaveError>
     ensures { WavesAs L.setup hand.old result hand.new }
 {
     if is_first {
-        common.shared.plan_wave(rt, alloc, hand)
+        common.shared.plan_wave(common.rt, common.alloc, hand)
     } else {
-        common.shared.start_best(rt, alloc, hand)
+        common.shared.start_best(common.rt, common.alloc, hand)
     }
 }

@@ -86,7 +86,7 @@ impl<L: Ledger + OfJob + Aim> Came<L> {
     }
 
     // What came back, with what the calling thread has.
-    fn with(self, alloc: Global, caller: Caller<'_, L>) -> Result<Ended<L>, AllocError> {
+    fn with<G: Gate, R>(self, caller: Caller<'_, L, G, R>) -> Result<Ended<L>, AllocError> {
         let Came {
             end,
             mut hands,
@@ -94,6 +94,7 @@ impl<L: Ledger + OfJob + Aim> Came<L> {
             seats,
         } = self;
         let Caller {
+            common,
             hand,
             watch,
             lanes,
@@ -102,7 +103,7 @@ impl<L: Ledger + OfJob + Aim> Came<L> {
         hands.push(hand)?;
         let (maker, reader) = watch.into_ends();
         let closing = Closing {
-            ours: halves_of(alloc, lanes)?,
+            ours: halves_of(common.alloc, lanes)?,
             theirs,
             seats,
             maker,
@@ -127,20 +128,17 @@ pub(crate) fn run_threads<
     O: Observer,
     R: Threads + Wait + Clock + Sync,
 >(
-    rt: &R,
-    alloc: Global,
-    common: &Common<'_, L, G>,
-    mut caller: Caller<'_, L>,
+    common: &Common<'_, L, G, R>,
+    mut caller: Caller<'_, L, G, R>,
     workers: Vec<Worker<'_, L>>,
     observer: &O,
 ) -> Result<Ended<L>, AllocError> {
-    let came = thread::scope(thread::scope_env(), rt, |scope| -> Came<L> {
+    let came = thread::scope(thread::scope_env(), common.rt, |scope| -> Came<L> {
         let mut end = Ok(());
-        let mut threads = Vec::new(alloc);
+        let mut threads = Vec::new(common.alloc);
         for worker in workers {
             let builder = thread::Builder::new().stack_size(STACK_BYTES);
-            let Ok(thread) = builder.spawn_scoped(scope, move || work(rt, alloc, common, worker))
-            else {
+            let Ok(thread) = builder.spawn_scoped(scope, move || work(common, worker)) else {
                 end = Err(RunError::NoThread);
                 break;
             };
@@ -150,19 +148,19 @@ pub(crate) fn run_threads<
             }
         }
         if end.is_ok() {
-            end = match caller.call(rt, alloc, common, observer) {
+            end = match caller.call(observer) {
                 Ok(_) => Ok(()),
                 Err(error) => Err(error),
             };
         }
         common.flags.end();
-        let mut came = Came::new(alloc, end);
+        let mut came = Came::new(common.alloc, end);
         for thread in threads {
-            if came.take(thread.join(rt)).is_err() {
+            if came.take(thread.join(common.rt)).is_err() {
                 came.fail();
             }
         }
         came
     });
-    came.with(alloc, caller)
+    came.with(caller)
 }

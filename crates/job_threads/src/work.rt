@@ -8,8 +8,7 @@ ghost use Rattle.shuffle_reduce.specs.Gather.{texts_of_runs};
 ghost use Rattle.hand_ledger.specs.Hands.{new_hand, with_place};
 ghost use Rattle.job_threads.specs.Steps.{MayEndWith};
 ghost use Rattle.job_threads.specs.Telling.{Does, HasWorked, IsAnswered, IsMapTold, IsPartTold, Performs};
-ghost use Rattle.job_threads.specs.Telling.{Tells};
-ghost use Rattle.job_threads.specs.Telling.{worker_room};
+ghost use Rattle.job_threads.specs.Telling.{Tells, worker_room};
 ghost use Rattle.job_threads.specs.declared.gate.Go.{Go};
 ghost use Rattle.job_threads.specs.declared.outcome.RunError.{RunError};
 
@@ -25,7 +24,6 @@ use master_state::{Answer, Why};
 use node_ids::{AttemptNo, PartNo};
 use shared_master::{Hand, OfJob};
 use shuffle_reduce::{PartResult, are_of_part, merge_paced};
-use std::alloc::Global;
 use std::rt::Clock;
 use std::sync::ledger::Ledger;
 use std::sync::{Arc, Wait};
@@ -67,9 +65,7 @@ pub(crate) struct Back<L: Ledger + Aim> {
 // Beats, takes orders and does them, until the run is over or the worker is stopped. It beats also while it
 // maps and merges.
 pub(crate) fn work<L: Ledger + OfJob + Aim, G: Gate, R: Wait + Clock>(
-    rt: &R,
-    alloc: Global,
-    common: &Common<'_, L, G>,
+    common: &Common<'_, L, G, R>,
     worker: Worker<'_, L>,
 ) -> Back<L>
     ensures worked { HasWorked L.setup result.half result.hand }
@@ -82,20 +78,11 @@ pub(crate) fn work<L: Ledger + OfJob + Aim, G: Gate, R: Wait + Clock>(
     let beating = Beating::new(pulse, &common.flags);
     let mut end = Ok(());
     let mut empty = 0;
-    for _ in rt.forever() {
+    for _ in common.rt.forever() {
         let Some(going) = beating.beat() else {
             break;
         };
-        match take_one(
-            rt,
-            alloc,
-            common,
-            &beating,
-            &mut hand,
-            &mut orders,
-            going,
-            empty,
-        ) {
+        match take_one(common, &beating, &mut hand, &mut orders, going, empty) {
             Ok(takes) => empty = takes,
             Err(error) => {
                 end = Err(error);
@@ -114,9 +101,7 @@ pub(crate) fn work<L: Ledger + OfJob + Aim, G: Gate, R: Wait + Clock>(
 
 // Takes the next order and does it, unless its attempt is lost: how many takes had no order by now.
 fn take_one<L: Ledger + OfJob + Aim, G: Gate, R: Wait + Clock>(
-    rt: &R,
-    alloc: Global,
-    common: &Common<'_, L, G>,
+    common: &Common<'_, L, G, R>,
     beating: &Beating<'_, '_, L>,
     hand: &mut Hand<L>,
     orders: &mut LaneEnd<'_, L>,
@@ -126,11 +111,11 @@ fn take_one<L: Ledger + OfJob + Aim, G: Gate, R: Wait + Clock>(
     ensures worked { HasWorked L.setup orders.old hand.old → HasWorked L.setup orders.new hand.new }
     ensures err { IfErr result (MayEndWith (G.may_end ≡ true)) }
 {
-    let Some(order) = orders.take(rt, going) else {
-        return Ok(wait(rt, empty, common.shared.sizes().workers));
+    let Some(order) = orders.take(common.rt, going) else {
+        return Ok(wait(common.rt, empty, common.shared.sizes().workers));
     };
     if !orders.is_lost(&order) {
-        perform(rt, alloc, common, beating, hand, &order)?;
+        perform(common, beating, hand, &order)?;
     }
     Ok(0)
 }
@@ -148,9 +133,7 @@ fn wait<R: Clock>(rt: &R, empty: u32, workers: usize) -> u32 {
 
 // Does an order, once its hand has room for a call more.
 fn perform<L: Ledger + OfJob + Aim, G: Gate, R: Wait>(
-    rt: &R,
-    alloc: Global,
-    common: &Common<'_, L, G>,
+    common: &Common<'_, L, G, R>,
     beating: &Beating<'_, '_, L>,
     hand: &mut Hand<L>,
     order: &Order,
@@ -159,7 +142,7 @@ fn perform<L: Ledger + OfJob + Aim, G: Gate, R: Wait>(
     ensures err { IfErr result (MayEndWith (G.may_end ≡ true)) }
 {
     make_room(hand)?;
-    do_order(rt, alloc, common, beating, hand, order)
+    do_order(common, beating, hand, order)
 }
 
 // Gives a hand room for a call more.
@@ -176,9 +159,7 @@ fn make_room<L: Ledger>(hand: &mut Hand<L>) -> Result<(), RunError>
 
 // Does an order.
 fn do_order<L: Ledger + OfJob + Aim, G: Gate, R: Wait>(
-    rt: &R,
-    alloc: Global,
-    common: &Common<'_, L, G>,
+    common: &Common<'_, L, G, R>,
     beating: &Beating<'_, '_, L>,
     hand: &mut Hand<L>,
     order: &Order,
@@ -189,27 +170,27 @@ fn do_order<L: Ledger + OfJob + Aim, G: Gate, R: Wait>(
     match order {
         Order::Map(attempt, text) => {
             judge_go(common.gate.before_map(order))?;
-            let made = mapped(alloc, common, beating, text);
+            let made = mapped(common, beating, text);
             let Some(going) = beating.beat() else {
                 return Ok(());
             };
-            let answer = tell_map(rt, common, hand, *attempt, made, going);
+            let answer = tell_map(common, hand, *attempt, made, going);
             judge(answer, hand)?;
             judge_go(ask_after(common, order))
         }
         Order::Reduce(attempt, part, runs) => {
-            let made = reduced(alloc, common, beating, *part, runs);
+            let made = reduced(common, beating, *part, runs);
             let Some(going) = beating.beat() else {
                 return Ok(());
             };
-            let answer = tell_reduce(rt, common, hand, *attempt, made, going);
+            let answer = tell_reduce(common, hand, *attempt, made, going);
             judge(answer, hand)
         }
     }
 }
 
 // What the gate says when the master has answered the worker's call for an order.
-fn ask_after<L: Ledger + OfJob + Aim, G: Gate>(common: &Common<'_, L, G>, order: &Order) -> Go
+fn ask_after<L: Ledger + OfJob + Aim, G: Gate, R>(common: &Common<'_, L, G, R>, order: &Order) -> Go
     requires { IsAnswered L.setup order.now }
     ensures { result ≡ Go.Over → G.may_end ≡ true }
 {
@@ -217,22 +198,26 @@ fn ask_after<L: Ledger + OfJob + Aim, G: Gate>(common: &Common<'_, L, G>, order:
 }
 
 // The words of the text; none where memory is wanting.
-fn mapped<L: Ledger + OfJob + Aim, G: Gate>(
-    alloc: Global,
-    common: &Common<'_, L, G>,
+fn mapped<L: Ledger + OfJob + Aim, G: Gate, R>(
+    common: &Common<'_, L, G, R>,
     beating: &Beating<'_, '_, L>,
     text: &Arc<SplitText>,
 ) -> Option<MapResult>
     ensures text { IfSome result (λ made. made.text ≡ arc_value text.now) }
     ensures parts { IfSome result (λ made. made.parts ≡ L.setup.cluster.parts) }
 {
-    map_split_paced(alloc, Arc::try_clone(text).ok()?, common.parts, beating).ok()
+    map_split_paced(
+        common.alloc,
+        Arc::try_clone(text).ok()?,
+        common.parts,
+        beating,
+    )
+    .ok()
 }
 
 // The part of the words; none also where the runs are not what a merge asks for.
-fn reduced<L: Ledger + OfJob + Aim, G: Gate>(
-    alloc: Global,
-    common: &Common<'_, L, G>,
+fn reduced<L: Ledger + OfJob + Aim, G: Gate, R>(
+    common: &Common<'_, L, G, R>,
     beating: &Beating<'_, '_, L>,
     part: PartNo,
     runs: &[Arc<Run>],
@@ -244,14 +229,13 @@ fn reduced<L: Ledger + OfJob + Aim, G: Gate>(
     if part.index() >= common.parts || !are_of_part(runs, part, common.parts) {
         return None;
     }
-    merge_paced(alloc, common.parts, part, runs, beating).ok()
+    merge_paced(common.alloc, common.parts, part, runs, beating).ok()
 }
 
 // Tells the master what became of a map attempt.
 #[tactic(auto, using(crate::proofs::Telling::kept_plainly))]
 fn tell_map<L: Ledger + OfJob + Aim, G: Gate, R: Wait>(
-    rt: &R,
-    common: &Common<'_, L, G>,
+    common: &Common<'_, L, G, R>,
     hand: &mut Hand<L>,
     attempt: AttemptNo,
     made: Option<MapResult>,
@@ -262,10 +246,10 @@ fn tell_map<L: Ledger + OfJob + Aim, G: Gate, R: Wait>(
         hand.old result hand.new }
 {
     let Some(made) = made else {
-        return common.shared.map_failed(rt, hand, attempt);
+        return common.shared.map_failed(common.rt, hand, attempt);
     };
-    match common.shared.map_done(rt, hand, attempt, made) {
-        Answer::Ignored(Why::WrongInput, _) => common.shared.map_failed(rt, hand, attempt),
+    match common.shared.map_done(common.rt, hand, attempt, made) {
+        Answer::Ignored(Why::WrongInput, _) => common.shared.map_failed(common.rt, hand, attempt),
         answer => answer.plain(),
     }
 }
@@ -273,8 +257,7 @@ fn tell_map<L: Ledger + OfJob + Aim, G: Gate, R: Wait>(
 // The same of a reduce attempt.
 #[tactic(auto, using(crate::proofs::Telling::kept_plainly))]
 fn tell_reduce<L: Ledger + OfJob + Aim, G: Gate, R: Wait>(
-    rt: &R,
-    common: &Common<'_, L, G>,
+    common: &Common<'_, L, G, R>,
     hand: &mut Hand<L>,
     attempt: AttemptNo,
     made: Option<PartResult>,
@@ -285,10 +268,10 @@ fn tell_reduce<L: Ledger + OfJob + Aim, G: Gate, R: Wait>(
         hand.old result hand.new }
 {
     let Some(made) = made else {
-        return common.shared.part_failed(rt, hand, attempt);
+        return common.shared.part_failed(common.rt, hand, attempt);
     };
-    match common.shared.part_done(rt, hand, attempt, made) {
-        Answer::Ignored(Why::WrongInput, _) => common.shared.part_failed(rt, hand, attempt),
+    match common.shared.part_done(common.rt, hand, attempt, made) {
+        Answer::Ignored(Why::WrongInput, _) => common.shared.part_failed(common.rt, hand, attempt),
         answer => answer.plain(),
     }
 }

@@ -1,7 +1,7 @@
 use Rattle.std.proofs.Common.{◌≡◌, Some, rules}
 use Rattle.job_threads.specs.Steps.{queues_of}
 use Rattle.job_threads.proofs.Planning.{queues_few}
-use Rattle.job_threads.proofs.aim.Queues.places.Goals as goal
+use Rattle.job_threads.proofs.brief.Brief.places.Goals as goal
 
 pub returns-in-Some-clause-few : goal.returns-in-Some-clause-few
 returns-in-Some-clause-few g c =
