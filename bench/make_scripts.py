@@ -3,6 +3,8 @@
 
     make_scripts.py commands      65,536 commands, none of them a wave: holders, deaths, returns, sweeps, old attempts
     make_scripts.py waves [N]     1,000 waves, or N, that start one split each, and its completion
+    make_scripts.py slots SPLITS WORKERS N    of a great cluster, each of whose workers has one slot: a wave that fills
+                                  all slots, and N times a completion and a wave for the slot that came back
     make_scripts.py job FILE      the lines of a file as documents, in 256 splits and 8 parts: one wave, and all is done
     make_scripts.py run FILE N    the same documents, splits and parts as a job of N workers, each holding its share
 """
@@ -54,6 +56,22 @@ def waves(count=WAVES):
         yield f"done {wave + 1}"
 
 
+def slots(splits, workers, count):
+    splits, workers, rnd = int(splits), int(workers), random.Random("slots")
+    racks = max(1, workers // 25)
+    yield "script 3"
+    yield "centre c"
+    yield from (f"rack r{rack} c" for rack in range(racks))
+    yield from (f"worker w{worker} r{worker % racks} 1" for worker in range(workers))
+    for split in range(splits):
+        yield f"split s{split} {2 * BLOCK} " + " ".join(f"w{it}" for it in rnd.sample(range(workers), 3))
+    yield "begin"
+    yield "wave"
+    for wave in range(int(count)):
+        yield f"done {wave + 1}"
+        yield "wave"
+
+
 def documents(path):
     """The lines of a file, in the splits of a job."""
     with open(path, encoding="ascii") as file:
@@ -85,7 +103,7 @@ def run(path, workers):
 
 
 def main():
-    kinds = {"commands": commands, "waves": waves, "job": job, "run": run}
+    kinds = {"commands": commands, "waves": waves, "slots": slots, "job": job, "run": run}
     if len(sys.argv) < 2 or sys.argv[1] not in kinds:
         sys.exit(__doc__)
     for line in kinds[sys.argv[1]](*sys.argv[2:]):

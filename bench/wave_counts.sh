@@ -1,7 +1,7 @@
 #!/usr/bin/env bash
-# Counts the instructions of a wave of `mrjob play` that starts one of 1,024 splits, its line read, its report written and
-# its split completed: how many more a script of 200 such waves takes than one of 100, for each of them. Each wave goes on
-# from the engine that the master keeps. It needs valgrind.
+# Counts the instructions of a wave of `mrjob play` that starts one split, its line read, its report written and a split
+# completed: how many more a script of twice as many such waves takes, for each of them. Each wave goes on from the engine
+# that the master keeps. The first cluster has one slot; in the great ones each worker has one. It needs valgrind.
 # usage: wave_counts.sh
 set -euo pipefail
 cd "$(dirname "$0")/.."
@@ -10,16 +10,24 @@ command -v valgrind > /dev/null || { echo "valgrind is missing" >&2; exit 1; }
 room=$(mktemp -d)
 trap 'rm -rf "$room"' EXIT
 
-# The instructions of a script of so many waves, which ends stuck.
-counted() { # WAVES
+# The instructions of a script, which ends stuck.
+counted() { # KIND..
     local status=0
-    bench/make_scripts.py waves "$1" > "$room/script"
+    bench/make_scripts.py "$@" > "$room/script"
     valgrind --tool=callgrind --callgrind-out-file=/dev/null "$mrjob" play < "$room/script" > "$room/report" \
         2> "$room/said" || status=$?
     if [ "$status" -gt 1 ]; then echo "status $status" >&2; return 1; fi
     awk '/Collected/ { print $NF }' "$room/said"
 }
 
-few=$(counted 100)
-many=$(counted 200)
-echo "$(((many - few) / 100)) instructions a wave"
+write_row() { # NAME WAVES KIND..
+    local name=$1 waves=$2 few many
+    shift 2
+    few=$(counted "$@" "$waves")
+    many=$(counted "$@" $((2 * waves)))
+    echo "$name: $(((many - few) / waves)) instructions a wave"
+}
+
+write_row "1,024 splits on 256 workers" 100 waves
+write_row "131,072 splits on 1,024 workers" 50 slots 131072 1024
+write_row "102,400 splits on 25,600 workers" 50 slots 102400 25600
