@@ -34,7 +34,7 @@ improves_refl s = record {
   order = refl;
 }
 
--- there is room for a node that was not come to
+-- there is room for a node that is not reached yet
 pub room_left : (h : Hollow) (s : SearchBack) → IsSearching h s → (v : TreeNode) → IsNode (wave_of h).tree v
     → 2 ^ 60 ≤ far_at s v → length s.reached.items < vec_capacity s.reached
 room_left h s searching v known past =

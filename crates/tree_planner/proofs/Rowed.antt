@@ -1,4 +1,4 @@
--- The row of the nodes that a search has come to.
+-- The row of the nodes that a search has reached.
 use Rattle.std.proofs.Common.{◌≡◌, ℕ, zero, suc, ◌+◌, ◌-◌, ◌^◌, ◌<◌, ◌≤◌, ◌⊎◌, [], ◌∷◌, ◌++◌, List, length, Contains}
 use Rattle.std.proofs.Common.{count_by, length-append, refl, sym, ap, ◌∙◌, subst, inl, inr, arith}
 use Rattle.std.specs.Prelude.{◌≢◌, nat_lt}
@@ -65,7 +65,7 @@ no_row tree far away = record {
   fit = omega arith;
 }
 
--- there is room for a node that was not come to
+-- there is room for a node that is not reached yet
 pub row_short : (tree : Tree) (far : TreeNode → ℕ) (row : List TreeNode) → IsRow tree far row → (v : TreeNode)
     → IsNode tree v → 2 ^ 60 ≤ far v → length row < node_count tree
 row_short tree far row r v known past =
@@ -105,7 +105,7 @@ module _ (row : List TreeNode) (v : TreeNode) where
         inr (ap (λ (k : ℕ). node_in (row ++ v ∷ []) k) e ∙ last_in))
   ]
 
--- a node that was come to, or came nearer
+-- a node that is reached, or comes nearer
 module _ (tree : Tree) (old new : TreeNode → ℕ) (node : TreeNode) (near : new node < 2 ^ 60)
     (others : (v : TreeNode) → v ≢ node → new v ≡ old v) where
   here_or_same : (v : TreeNode) → (v ≡ node) ⊎ (new v ≡ old v)
@@ -177,7 +177,7 @@ module _ (tree : Tree) (old new : TreeNode → ℕ) (node : TreeNode) (near : ne
     | inr past ↦ subst (IsRow tree new) (sym (added.fresh past)) (row_more row r known past)
   ]
 
--- Nodes that are forgotten, from the last in the row on: each node is as if it had not been come to, or stands there.
+-- Nodes are forgotten, from the last in the row on: each node stands in the row, or is as if never reached.
 pub record IsLeft (tree : Tree) (far order : TreeNode → ℕ) (row : List TreeNode) : Type 0 where
   pub known : (k : ℕ) → k < length row → IsNode tree (node_in row k)
   pub each : (v : TreeNode) → ((far v ≡ 2 ^ 60) × (order v ≡ 0)) ⊎ StandsIn row v

@@ -231,7 +231,7 @@ module _ (wave : Wave) (state : State) (left : NodeTable ℕ) (splits : List ℕ
     (kept : IsKept wave state)
     (shipped : (s : ℕ) → s < length wave.splits → place_of state s ≢ Unshipped)
     (all : AreStanding state splits) (h : AreFirstHanded wave state left splits k pairs) where
-  -- the splits up to one that the others to come do not come before wait
+  -- the splits between one that stands and the next one wait
   wait_to : (m : ℕ) → length h.starts ≤ m → m ≤ length wave.splits
       → ((j : ℕ) → k ≤ j → j < length splits → m ≤ slice_index splits j)
       → HaveWaited wave state left h.starts (m - length h.starts)

@@ -63,7 +63,7 @@ all_of tree = numbered Worker (length tree.rack_of)
 abbrev pub node_count : Tree → ℕ
 node_count tree = length tree.rack_of + length tree.centre_of + tree.centres + 1
 
--- whether a node is nearer than 2 ^ 60, which is farther than any way goes
+-- whether a node is nearer than 2 ^ 60, a distance past all ways
 abbrev pub is_reached : (TreeNode → ℕ) → TreeNode → Bool
 is_reached far v = nat_lt (far v) (2 ^ 60)
 
@@ -75,7 +75,7 @@ node_in row k = slice_index_or row k (Worker 0)
 abbrev pub StandsIn : List TreeNode → TreeNode → Type 0
 StandsIn row v = (k : ℕ) × (k < length row) × (node_in row k ≡ v)
 
--- the nodes that a search has come to stand in a row, each once, and no other node does
+-- the reached nodes stand in a row, each once, and no other node does
 pub record IsRow (tree : Tree) (far : TreeNode → ℕ) (row : List TreeNode) : Type 0 where
   pub known : (k : ℕ) → k < length row → IsNode tree (node_in row k)
   pub near : (k : ℕ) → k < length row → far (node_in row k) < 2 ^ 60

@@ -34,7 +34,7 @@ pub record IsHollow (h : Hollow) : Type 0 where
   pub known : IsNode (wave_of h).tree h.hole
   pub standing : IsStandingBut (wave_of h) h.tables.now (Some h.hole)
 
--- how far a node is at most: as the search came to it, or 2 ^ 60, which is farther than any way goes
+-- how far a node is at most: as the search reached it, or 2 ^ 60, a distance past all ways
 abbrev pub far_at : SearchBack → TreeNode → ℕ
 far_at search v = at_or search.far (2 ^ 60) v
 
@@ -115,7 +115,7 @@ pub record HasTables (tree : Tree) (search : SearchBack) : Type 0 where
   pub order : IsOver tree search.order
   pub room : node_count tree ≤ vec_capacity search.reached
 
--- a search back that has not come to any node
+-- a search back that has reached no node
 pub record IsBlank (tree : Tree) (search : SearchBack) : Type 0 where
   pub tables : HasTables tree search
   pub row : search.reached.items ≡ []
@@ -128,7 +128,7 @@ pub record IsUnused (wave : Wave) (search : SearchBack) : Type 0 where
   pub bound : search.bound ≡ 2 ^ 60
   pub looked : search.looked ≡ 0
 
--- the nodes that it has come to stand in its row, and it has looked from no other node
+-- the reached nodes stand in its row, and it has looked from no other node
 pub record HasReached (tree : Tree) (search : SearchBack) : Type 0 where
   pub row : IsRow tree (far_at search) search.reached.items
   pub looked : (v : TreeNode) → 0 < order_at search v → far_at search v < 2 ^ 60

@@ -54,8 +54,8 @@ pub enum Rest {
     Join(u32, End),
 }
 
-/// What a search back stands on: a problem, what is read of it, the tables of a state with a hole, and a split that
-/// may fill it for nothing, if one is known.
+/// What a search back stands on: a problem, what is read of it, the tables of a state with a hole, and a split
+/// that may fill the hole for nothing, if one is known.
 #[derive(Drop)]
 pub struct Hollow<'a> {
     pub problem: &'a Problem,
@@ -66,8 +66,8 @@ pub struct Hollow<'a> {
 }
 
 /// From which node the hole starts; how far each node is, how the hole comes to it, as which one it was looked
-/// from; the nodes that were come to; and the nearest end of a way, and how far it is. Its tables serve one
-/// search after another: between two of them no node has been come to.
+/// from; the reached nodes; and the nearest end of a way, and how far it is. The tables serve one search after
+/// another: between two searches no node is reached.
 pub struct SearchBack {
     pub hole: TreeNode,
     pub far: NodeTable<u64>,
@@ -129,7 +129,7 @@ impl SearchBack {
         self.goal = Rest::Free(hole);
     }
 
-    /// Forgets the nodes that were come to.
+    /// Forgets the reached nodes.
     pub fn clear(&mut self, tree: &RackTree)
         requires tables { HasTables tree.now self.old }
         requires reached { HasReached tree.now self.old }
@@ -200,7 +200,7 @@ impl SearchBack {
     }
 }
 
-// Adds a node, which was so far, to a row of the nodes that were come to.
+// Adds a node, which was so far, to the row of the reached nodes.
 fn note(row: &mut Vec<TreeNode>, node: TreeNode, far: u64)
     requires { 2 ^ 60 ≤ far → length row.old.items < vec_capacity row.old }
     ensures added { IsAdded row.old.items row.new.items node far }
@@ -502,7 +502,7 @@ fn look_over(hollow: &Hollow<'_>, search: &mut SearchBack, node: TreeNode)
     over_all(hollow, search, node);
 }
 
-// The split that is to be looked at first may do so, if there is one.
+// The split that is to be looked at first may fill the hole, if there is such a split.
 fn over_first(hollow: &Hollow<'_>, search: &mut SearchBack, node: TreeNode)
     requires hollow { IsHollow hollow.now }
     requires known { IsNode (wave_of hollow.now).tree node }

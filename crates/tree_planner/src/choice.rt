@@ -47,7 +47,6 @@ pub fn choose(ground: &Ground<'_>, split: u32) -> Choice
     }
 }
 
-// (no end costs less than nothing)
 fn cheapest_end(ground: &Ground<'_>, split: u32) -> Cheapest
     requires ground { IsGround ground.now }
     requires split { split < length (wave_of ground.now).splits }
@@ -62,6 +61,7 @@ fn cheapest_end(ground: &Ground<'_>, split: u32) -> Cheapest
     let ends = ends_of(ground, split);
     for group in ends.groups() {
         best = best_of(ground, split, best, &ends, *group);
+        // (no other end costs less)
         if best.least == 0 && best.end.is_some() {
             return best;
         }

@@ -1,4 +1,4 @@
-//! Which splits have a copy on a worker: of these one that waits takes a slot of the worker for nothing.
+//! Which splits have a copy on a worker. Such a split, if it waits, takes a slot of the worker for nothing.
 use node_ids::{SplitNo, WorkerNo};
 use std::alloc::{AllocError, Global};
 use tree_flow::Place;
@@ -17,8 +17,8 @@ pub struct Link {
     pub next: u32,
 }
 
-/// For each worker a list of splits that have a copy on it: its head, and the splits of all lists. The lists are
-/// those of a problem as it was once, so they only say where to look first.
+/// For each worker a list of the splits that have a copy on it: the list's head, and the splits of all lists. The
+/// lists are those of an earlier problem, so they only say where to look first.
 #[derive(Drop)]
 pub struct Copies {
     heads: Vec<u32>,
@@ -58,8 +58,8 @@ impl Copies {
         Ok(())
     }
 
-    /// A split that waits to start and has a copy on a worker, if one is soon found. Splits before it that do not
-    /// leave the list.
+    /// A split that waits to start and has a copy on the worker, if one is soon found. The splits before it, which
+    /// do not wait, leave the list.
     pub fn first_waiting(
         &mut self,
         problem: &Problem,
@@ -84,7 +84,7 @@ impl Copies {
     }
 }
 
-// Whether a split waits, and is to start.
+// Whether a split waits, and is pending.
 fn is_waiting(problem: &Problem, places: &[Place], split: u32) -> bool {
     (split as usize) < places.len()
         && (split as usize) < problem.splits()

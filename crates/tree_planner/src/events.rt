@@ -57,7 +57,7 @@ pub fn settle(
 }
 
 /// A slot of a worker comes back: a split that waits may take it, splits may change their places for it, or
-/// it stays free. One split is looked at first, if there is one.
+/// it stays free. The split that is named, if one is, is looked at first.
 pub fn free(
     problem: &mut Problem,
     fixed: &mut Fixed,

@@ -21,7 +21,7 @@ use node_ids::WorkerNo;
 use tree_flow::{End, NodeTable, Place, TreeNode};
 use wave_problem::Problem;
 
-// So many cells more than two for each split that stands are no reason to make the lists anew.
+// Lists may have so many cells more than two for each split that stands, before they are made anew.
 const SPARE_CELLS: usize = 1_024;
 
 /// After a search each node that is nearer than the end of the way lies deeper by the rest, and none deeper
@@ -213,7 +213,7 @@ fn list(problem: &Problem, tables: &mut Tables, split: u32, node: TreeNode)
     }
 }
 
-/// Makes all lists anew where they have many more cells than splits stand: more than two for each, and some.
+/// Makes all lists anew where they have many more cells than splits stand.
 pub fn shorten_lists(problem: &Problem, tables: &mut Tables, stand: usize)
     requires { AreTables problem.now tables.old }
     ensures rest { tables.new ≡ record tables.old { standing = tables.new.standing } }

@@ -24,7 +24,7 @@ use std::alloc::{AllocError, Global};
 use tree_flow::{NodeTable, Place, TreeNode};
 use wave_problem::{Plan, Problem};
 
-// Where the lists have at most this part of a cell for each split, the cells are looked through and not the splits.
+// Where there is at most one cell for so many splits, the cells are looked through, and not all splits.
 const FEW: usize = 8;
 
 /// The splits that start, each with its worker, by rising split: where one stands, a worker to which its unit

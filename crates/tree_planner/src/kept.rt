@@ -340,8 +340,8 @@ impl Engine {
         read_off(alloc, &self.problem, &self.fixed, &self.tables)
     }
 
-    /// The splits that start when every split is shipped, each with its worker, by rising split. It takes as long as
-    /// there are splits that stand, not as there are splits, and needs no prices.
+    /// The splits that start when every split is shipped, each with its worker, by rising split. The time grows
+    /// with the splits that stand, and not with all splits. No prices are made.
     pub fn starts(&mut self, alloc: Global) -> Result<Vec<(SplitNo, WorkerNo)>, AllocError>
         requires { (s : ℕ) → s < length self.old.wave.splits → place_of (state_in self.old) s ≢ Unshipped }
         ensures best { IfOk result (λ pairs. AreBestStarts self.old.wave pairs.items) }

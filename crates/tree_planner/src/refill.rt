@@ -21,7 +21,7 @@ use tree_flow::{End, NodeTable, Place, TreeNode};
 use wave_problem::Problem;
 
 /// Fills a hole as cheaply as can be: a split that waits takes the slot, or a slot of a worker becomes free. The
-/// search for it is blank before and after, and looks at one split first, if there is one. Nothing here needs memory.
+/// search is blank before and after. It looks first at the split that is named, if one is. No memory is needed.
 pub fn fill(
     problem: &Problem,
     fixed: &Fixed,
