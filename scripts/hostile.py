@@ -112,7 +112,7 @@ class Hostile:
 
     def __init__(self, name, command, fault, make, memory, instructions):
         self.name, self.command, self.fault, self.make = name, command, fault, make
-        self.memory, self.instructions = memory * MEGABYTE, instructions
+        self.memory, self.instructions = int(memory * MEGABYTE), instructions
 
 
 SWEEP = " ".join(["sweep", *["1"] * len(WORKERS)])
@@ -120,28 +120,28 @@ JOIN = " ".join(["join w0", *SPLITS])
 
 
 ALL = [
-    Hostile("one long word", "plan", 1, lambda size: "a" * (size - 1) + "\n", 4, 12),
-    Hostile("no line feed", "plan", 12, lambda size: "a" * size, 4, 4),
-    Hostile("words where none may be", "plan", 1, one_line(f"{PLAIN}end", ["a"]), 4, 4),
-    Hostile("one holder over and over", "plan", 6, one_line(f"{PLAIN}split s 1", ["a"]), 4, 60),
-    Hostile("two holders in turn", "plan", 6, one_line(f"{PLAIN}split s 1", ["a", "b"]), 4, 60),
-    Hostile("256 holders in turn", "plan", 6, one_line(f"{WIDE}split x 1", WORKERS), 4, 40),
-    Hostile("4,096 holders in turn", "plan", 6, one_line(f"{WIDER}split x 1", HOLDERS), 4, 95),
-    Hostile("holders that nobody declared", "plan", 3, different(f"{PLAIN}split s 1"), 4, 42),
-    Hostile("one split over and over", "play", 8, one_line(f"{SCRIPT}join a", ["s"]), 4, 60),
-    Hostile("two splits in turn", "play", 8, one_line(f"{SCRIPT}join a", ["s", "t"]), 4, 60),
-    Hostile("1,024 splits in turn", "play", 8, one_line(f"{WIDE_SCRIPT}join w0", SPLITS), 4, 65),
-    Hostile("splits that nobody declared", "play", 3, different(f"{SCRIPT}join a"), 4, 42),
-    Hostile("counts of nobody", "play", 1, one_line(f"{SCRIPT}sweep", ["1"]), 4, 4),
-    Hostile("a fault behind sweeps", "play", 1, late(WIDE_SCRIPT, commands(SWEEP)), 6, 75),
-    Hostile("a fault behind joins", "play", 1, late(WIDE_SCRIPT, commands(JOIN)), 4, 60),
-    Hostile("a fault behind commands", "play", 1, late(SCRIPT, commands("done 1000000")), 8, 80),
-    Hostile("a fault behind barred pairs", "plan", 1, late(WIDE, barred_pairs), 18, 125),
-    Hostile("one price of a place over and over", "check", 1, one_line(f"{NEW_PROBLEM}places a", ["1"]), 4, 4),
-    Hostile("a fault behind prices of places", "check", 1, late_prices, 160, 95),
-    Hostile("a fault behind documents", "run", 1, late(JOB, documents), 13, 12),
-    Hostile("a fault behind a million commands", "play", 1, late(NEW_SCRIPT, commands("done 1000000", MANY)), 60, 80),
-    Hostile("a fault behind a million documents", "run", 1, late(NEW_JOB, short_documents), 120, 160),
+    Hostile("one long word", "plan", 1, lambda size: "a" * (size - 1) + "\n", 4.5, 9),
+    Hostile("no line feed", "plan", 12, lambda size: "a" * size, 4.5, 2),
+    Hostile("words where none may be", "plan", 1, one_line(f"{PLAIN}end", ["a"]), 4.5, 2),
+    Hostile("one holder over and over", "plan", 6, one_line(f"{PLAIN}split s 1", ["a"]), 4.5, 46),
+    Hostile("two holders in turn", "plan", 6, one_line(f"{PLAIN}split s 1", ["a", "b"]), 4.5, 46),
+    Hostile("256 holders in turn", "plan", 6, one_line(f"{WIDE}split x 1", WORKERS), 4.5, 23),
+    Hostile("4,096 holders in turn", "plan", 6, one_line(f"{WIDER}split x 1", HOLDERS), 4.5, 45),
+    Hostile("holders that nobody declared", "plan", 3, different(f"{PLAIN}split s 1"), 4.5, 18),
+    Hostile("one split over and over", "play", 8, one_line(f"{SCRIPT}join a", ["s"]), 4.5, 46),
+    Hostile("two splits in turn", "play", 8, one_line(f"{SCRIPT}join a", ["s", "t"]), 4.5, 46),
+    Hostile("1,024 splits in turn", "play", 8, one_line(f"{WIDE_SCRIPT}join w0", SPLITS), 4.5, 27),
+    Hostile("splits that nobody declared", "play", 3, different(f"{SCRIPT}join a"), 4.5, 18),
+    Hostile("counts of nobody", "play", 1, one_line(f"{SCRIPT}sweep", ["1"]), 4.5, 2),
+    Hostile("a fault behind sweeps", "play", 1, late(WIDE_SCRIPT, commands(SWEEP)), 6, 53),
+    Hostile("a fault behind joins", "play", 1, late(WIDE_SCRIPT, commands(JOIN)), 4.5, 27),
+    Hostile("a fault behind commands", "play", 1, late(SCRIPT, commands("done 1000000")), 8, 69),
+    Hostile("a fault behind barred pairs", "plan", 1, late(WIDE, barred_pairs), 18.5, 93),
+    Hostile("one price of a place over and over", "check", 1, one_line(f"{NEW_PROBLEM}places a", ["1"]), 4.5, 2),
+    Hostile("a fault behind prices of places", "check", 1, late_prices, 160, 72),
+    Hostile("a fault behind documents", "run", 1, late(JOB, documents), 13, 8),
+    Hostile("a fault behind a million commands", "play", 1, late(NEW_SCRIPT, commands("done 1000000", MANY)), 60, 69),
+    Hostile("a fault behind a million documents", "run", 1, late(NEW_JOB, short_documents), 120, 113),
 ]
 
 

@@ -1,27 +1,31 @@
 -- The numbers of the workers that hold splits.
-use Rattle.std.proofs.Common.{ℕ, List, [], ◌∷◌, ◌++◌, ◌≡◌, ◌<◌, ◌∙◌, Bor, ap, arith}
+use Rattle.std.proofs.Common.{ℕ, List, [], ◌∷◌, ◌++◌, ◌≡◌, ◌≢◌, ◌≤◌, ◌<◌, ◌∙◌, Bor, ap, arith, zero}
 use Rattle.std.proofs.Common.{cond, drop, get_or, length, length-drop, map, refl, subst, suc, sym, take}
 use Rattle.std.proofs.Common.{◌+◌, ◌-◌, min, None, Option, Some, take_all}
 use Rattle.std.specs.Prelude.{Contains, MatchOption}
-use Rattle.std.specs.List.{All, flat_map}
+use Rattle.std.specs.List.{All, AllPairs, flat_map}
 use Rattle.std.proofs.lemmas.Grind.{flat_map-append}
 use Rattle.std.proofs.lemmas.List.{get_or-map, get_or_default, length-map, map-append, take_more}
 use Rattle.std.proofs.lemmas.List.Elements.{All-append, All-cons, All-nil, All-weaker, filter-append}
 use Rattle.text_lines.specs.Texts.{Word}
 use Rattle.line_shapes.specs.Demands.{Meet}
 use Rattle.line_shapes.specs.Lines.{IsShaped, Statement, stated, tail_words}
+use Rattle.line_shapes.specs.Places.{place_at}
+use Rattle.line_shapes.specs.declared.place.Place.{Place}
 use Rattle.line_shapes.specs.declared.demand.Demand.TheVariants.{Shape}
 use Rattle.line_shapes.specs.declared.keyword.Keyword.{Keyword}
 use Rattle.line_shapes.specs.declared.keyword.Keyword.TheVariants.{Split, Worker}
+use Rattle.line_rules.specs.Entered.{AreFit, IsFitIn}
 use Rattle.line_rules.specs.Entering.{entered_by, entered_of, entering_of}
 use Rattle.line_rules.specs.Faults.{Keep}
 use Rattle.line_rules.specs.Holders.{AreHolders, AreHoldersOf, AreNumbersOf, IsHeld, IsWorker, holders_in}
 use Rattle.line_rules.specs.Known.{HasNumber, is_of, keys_of, rows_of}
-use Rattle.line_rules.specs.Rows.{name_in}
+use Rattle.line_rules.specs.Rows.{AreTabled, Bars, Firsts, Others, name_in}
+use Rattle.line_rules.specs.declared.edition.Version.{Version}
 use Rattle.line_rules.specs.declared.entering.Entering.{Entering}
 use Rattle.line_rules.specs.declared.entering.Entering.TheVariants.{Nothing, InTurn}
 use Rattle.line_rules.specs.declared.rule.Rule.TheVariants.{Declared}
-use Rattle.line_rules.proofs.Barred.{count_kept, name_kept, name_of}
+use Rattle.line_rules.proofs.Barred.{count_kept, has_name, name_kept, name_of, one_number}
 use Rattle.line_rules.proofs.OfKeyword.{is_of-other, numbered_there}
 
 -- ---- one line more
@@ -153,3 +157,34 @@ behind_two k ws m same is =
     by (a ∷ b ∷ us) =
         let two : min (length (a ∷ b ∷ us)) 2 ≡ 2 = omega arith in
         ap (λ n. said (drop n (a ∷ b ∷ us))) two
+
+-- the words of a split's line are fit where the first two are and its holders are workers
+pub split_fit : (version : Version) (rows : List Statement) (ws : List (Bor (List ℕ))) (v w : Bor (List ℕ))
+    (p q : Option Place) → 2 ≤ length ws → p ≡ place_at Split 0 → q ≡ place_at Split 1
+    → IsFitIn version rows p (get_or ws 0 v).now → IsFitIn version rows q (get_or ws 1 w).now
+    → IsHeld rows (stated Split ws) → AreFit version rows (stated Split ws)
+split_fit version rows [] v w p q long first second name bytes held i lt = absurd (omega (arith, long))
+split_fit version rows (a ∷ []) v w p q long first second name bytes held i lt = absurd (omega (arith, long))
+split_fit version rows (a ∷ b ∷ ws) v w p q long first second name bytes held zero lt =
+    subst (λ place. IsFitIn version rows place a.now) first name
+split_fit version rows (a ∷ b ∷ ws) v w p q long first second name bytes held (suc zero) lt =
+    subst (λ place. IsFitIn version rows place b.now) second bytes
+split_fit version rows (a ∷ b ∷ ws) v w p q long first second name bytes held (suc (suc k)) lt =
+    held refl k [] (omega (arith, lt))
+
+-- workers of different numbers have different names
+pub names_apart : (rows : List Statement) (firsts : Firsts) (others : Others) (bars : Bars)
+    → AreTabled rows firsts others bars → (ns : List ℕ) → AllPairs (λ a b. a ≢ b) ns → (names : List Word)
+    → AreNumbersOf rows names ns → AllPairs (λ a b. a ≢ b) names
+names_apart rows firsts others bars tabled ns apart names h =
+    subst (AllPairs (λ a b. a ≢ b)) h.named (λ i j d lt inside same.
+    let long = length-map ns (name_in Worker rows) in
+    let low : i < length ns = omega (arith, lt, inside, long) in
+    let high : j < length ns = omega (arith, inside, long) in
+    let one = has_name Worker refl rows (get_or ns i 0) (h.within i 0 low) in
+    let other = has_name Worker refl rows (get_or ns j 0) (h.within j 0 high) in
+    let is : name_in Worker rows (get_or ns i 0) ≡ name_in Worker rows (get_or ns j 0) =
+    sym (get_or-map (name_in Worker rows) ns i 0 d low) ∙ same ∙ get_or-map (name_in Worker rows) ns j 0 d high in
+    apart i j 0 lt high (one_number rows firsts others bars tabled (Worker, name_in Worker rows (get_or ns j 0), [])
+    (get_or ns i 0) (get_or ns j 0) (λ e. cc)
+    (subst (λ (w : Word). HasNumber rows (Worker, w, []) (get_or ns i 0)) is one) other))

@@ -1,22 +1,21 @@
 -- Keys that are the same, and the tables of keys with the numbers of their rows.
-use Rattle.std.proofs.Common.{ℕ, List, [], ◌∷◌, ◌++◌, ◌≡◌, ◌==◌, ◌<◌, ◌∙◌, Bool, true, false, Bor, inl}
+use Rattle.std.proofs.Common.{[], ℕ, List, ◌∷◌, ◌++◌, ◌≡◌, ◌==◌, ◌<◌, ◌∙◌, Bool, true, false, Bor, inl}
 use Rattle.std.proofs.Common.{inr, Option, Some, None, cond, length, map, sym, ap, refl, subst, arith, get_or}
 use Rattle.std.proofs.Common.{eqb-true, true≢false}
 use Rattle.std.specs.Prelude.{◌↔◌, ◌⊎◌, Contains, IsTrue, MatchOption}
 use Rattle.std.specs.Bool.{Decides}
 use Rattle.std.specs.Map.{lookup}
-use Rattle.std.specs.Option.{IsSome, is_some, unwrap_or}
+use Rattle.std.specs.Option.{IsSome, is_some}
 use Rattle.std.specs.Str.{bytes_eq}
 use Rattle.std.proofs.lemmas.List.{get_or-map, map_push}
 use Rattle.std.proofs.lemmas.Option.{none-some, same_Some}
 use Rattle.std.proofs.lemmas.List.Elements.{Contains-push_cases}
 use Rattle.std.proofs.lemmas.Slice.Eq.{bytes_eq-Decides}
-use Rattle.indexmap.specs.IndexMap.{insert_entry}
 use Rattle.text_lines.specs.Texts.{Word}
 use Rattle.line_shapes.specs.Lines.{Statement}
 use Rattle.line_shapes.specs.declared.keyword.Keyword.{Keyword}
 use Rattle.line_rules.specs.Entering.{Key, key_of}
-use Rattle.line_rules.specs.Known.{HasNumber, HasRow, keys_of, rows_of}
+use Rattle.line_rules.specs.Known.{HasNumber, HasRow, keys_of}
 use Rattle.line_rules.specs.Rows.{AreTabled, Bars, Firsts, HasKeyMore, HaveWords, IsBarred, IsKeyAt, IsNewKey}
 use Rattle.line_rules.specs.Rows.{IsRowAt, IsTabled, Others}
 use Rattle.line_rules.specs.Rows.{TextKey, first_by, key_in, other_by, same_key}
@@ -90,9 +89,6 @@ not_empty word some empty = true≢false (sym (ap (λ (w : Word). length w == 0)
 
 -- ---- the first table
 
-abbrev pub same_word : Bor (List ℕ) → Bor (List ℕ) → Bool
-same_word a b = bytes_eq a.now b.now
-
 -- a word that was in no entry is now
 pub key_put_first : (firsts new : Firsts) (others : Others) (word : Bor (List ℕ)) (k : Keyword) (n : ℕ)
     (second : Word) → new ≡ firsts ++ (word, (k, n)) ∷ [] → first_by firsts word.now ≡ None → second ≡ []
@@ -131,44 +127,6 @@ key_put_first firsts new others word k n second grown none empty =
           is_some_at _ had.0 (found_kept (test w) e firsts had.0 had.1);
       word = λ _. is_some_at _ (k, n) found;
     })
-
--- an entry that has its value already
-entry_same : (firsts : Firsts) (word : Bor (List ℕ)) (v : Keyword × ℕ) → first_by firsts word.now ≡ Some v
-    → insert_entry same_word firsts word v ≡ firsts
-entry_same [] word v is = absurd (none-some v is)
-entry_same (x ∷ firsts) word v is = grind (arith, entry_same firsts word v)
-
-module _ (firsts new : Firsts) (word : Bor (List ℕ)) (k : Keyword) (n : ℕ) (v : Keyword × ℕ)
-    (grown : new ≡ insert_entry same_word firsts word v)
-    (value : v ≡ unwrap_or (first_by firsts word.now) (k, n)) where
-  -- the first table once a word was entered, where it was not by another keyword
-  pub key_entered : (others : Others) → ((m : ℕ) → first_by firsts word.now ≡ Some (k, m) → ⊥) → v.0 ≡ k
-      → (first_by firsts word.now ≡ None → insert_entry same_word firsts word v ≡ firsts ++ (word, v) ∷ [])
-      → HasKeyMore firsts others (k, word.now, []) n new others
-  key_entered others new_key same last = by (first_by firsts word.now) refl
-    where
-      by : (o : Option (Keyword × ℕ)) → first_by firsts word.now ≡ o
-          → HasKeyMore firsts others (k, word.now, []) n new others
-      by None none =
-          let is : v ≡ (k, n) = value ∙ ap (λ o. unwrap_or o (k, n)) none in
-          key_put_first firsts new others word k n []
-          (grown ∙ last none ∙ ap (λ (p : Keyword × ℕ). firsts ++ (word, p) ∷ []) is) none refl
-      by (Some w) some =
-          let is : v ≡ w = value ∙ ap (λ o. unwrap_or o (k, n)) some in
-          absurd (new_key w.1 (some ∙ (λ i. Some ((ap (λ (p : Keyword × ℕ). p.0) (sym is) ∙ same) i, w.1))))
-
-  -- and where it was by another
-  pub entered_before : (v.0 ≡ k → ⊥) → (new ≡ firsts) × IsSome (first_by firsts word.now)
-  entered_before other = by (first_by firsts word.now) refl
-    where
-      by : (o : Option (Keyword × ℕ)) → first_by firsts word.now ≡ o
-          → (new ≡ firsts) × IsSome (first_by firsts word.now)
-      by None none =
-          let is : v ≡ (k, n) = value ∙ ap (λ o. unwrap_or o (k, n)) none in
-          absurd (other (ap (λ (p : Keyword × ℕ). p.0) is))
-      by (Some w) some =
-          let is : v ≡ w = value ∙ ap (λ o. unwrap_or o (k, n)) some in
-          (grown ∙ entry_same firsts word v (some ∙ ap Some (sym is)), is_some_at _ w some)
 
 -- ---- the second table
 
@@ -209,11 +167,6 @@ key_put_other firsts others new key n grown none word =
 pub pushed : {X Y : Type 0} (f : X → Y) (xs : List X) (x : X) (q : Y) → Contains (map f (xs ++ x ∷ [])) q
     → Contains (map f xs) q ⊎ (f x ≡ q)
 pushed f xs x q h = Contains-push_cases (map f xs) (f x) q (subst (λ l. Contains l q) (map_push f xs x) h)
-
-pub none_has : (rows : List Statement) (key : Key) (o : Option ℕ) → o ≡ None
-    → (Contains (keys_of rows) key → ⊥) → MatchOption o (Contains (keys_of rows) key → ⊥) (HasNumber rows key)
-none_has rows key o none absent =
-    subst (λ p. MatchOption p (Contains (keys_of rows) key → ⊥) (HasNumber rows key)) (sym none) absent
 
 -- a row of the key, where its number was asked for
 pub has_key : (rows : List Statement) (key : Key) (o : Option ℕ) (b : Bool)

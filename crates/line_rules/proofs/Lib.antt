@@ -2,6 +2,7 @@ pub mod OfKeyword
 pub mod Placed
 pub mod Listed
 pub mod Keyed
+pub mod Chained
 pub mod Barred
 pub mod Put
 pub mod Paired

@@ -1,9 +1,9 @@
 -- Lines that are the first of their key, and lines that bar a pair whose names are declared.
-use Rattle.std.proofs.Common.{ℕ, List, [], ◌∷◌, ◌≡◌, ◌==◌, ◌<◌, Bor, arith, false, get_or, length, map, refl}
+use Rattle.std.proofs.Common.{[], ℕ, List, ◌∷◌, ◌≡◌, ◌==◌, ◌<◌, arith, false, length, refl}
 use Rattle.std.proofs.Common.{suc, sym, zero}
 use Rattle.text_lines.specs.Texts.{Word}
-use Rattle.line_shapes.specs.Lines.{Statement, stated}
-use Rattle.line_shapes.specs.declared.keyword.Keyword.TheVariants.{Barred, Split, Worker}
+use Rattle.line_shapes.specs.Lines.{Statement}
+use Rattle.line_shapes.specs.declared.keyword.Keyword.TheVariants.{Split, Worker}
 use Rattle.line_rules.specs.Entered.{AreFit}
 use Rattle.line_rules.specs.Faults.{IsFirst, IsFirstOfHead}
 use Rattle.line_rules.specs.Known.{HasNumber}
@@ -22,14 +22,6 @@ first_of_head after rows s first = tt
 pub some_length : (w : Word) → (length w == 0) ≡ false → 0 < length w
 some_length [] is = cc
 some_length (b ∷ bs) is = omega arith
-
--- a line of two words
-pub two_words : (words : List (Bor (List ℕ))) (d e : Bor (List ℕ)) → length words ≡ 2
-    → stated Barred words ≡ bar_said (get_or words 0 d).now (get_or words 1 e).now
-two_words [] d e two = absurd (omega (arith, two))
-two_words (v ∷ []) d e two = absurd (omega (arith, two))
-two_words (v ∷ w ∷ []) d e two = refl
-two_words (v ∷ w ∷ x ∷ words) d e two = absurd (omega (arith, two))
 
 module _ (rows : List Statement) (first second : Word) (split worker : ℕ)
     (one : HasNumber rows (Split, first, []) split) (two : HasNumber rows (Worker, second, []) worker) where

@@ -4,6 +4,7 @@ pub mod Entered
 pub mod Known
 pub mod Names
 pub mod Rows
+pub mod WordTable
 pub mod Holders
 pub mod Said
 pub mod Faults

@@ -1,11 +1,12 @@
 -- What is read of a text, line by line.
-use Rattle.std.specs.Prelude.{ℕ, List, [], ◌∷◌, ◌≡◌, ◌≢◌, ◌≤◌, length, take}
+use Rattle.std.specs.Prelude.{ℕ, List, Option, [], ◌∷◌, ◌≡◌, ◌≢◌, ◌≤◌, length, take}
 use Rattle.std.specs.List.{All}
+use Rattle.std.specs.Borrow.{Bor}
 use Rattle.text_lines.specs.Streams.{longest}
 use Rattle.text_lines.specs.Texts.{IsPrintable, Line, Word, lines_of}
 use Rattle.text_lines.specs.declared.fault.Fault.{Fault}
 use Rattle.line_shapes.specs.Keywords.{spelling_of}
-use Rattle.line_shapes.specs.Lines.{Says, Statement, words_in}
+use Rattle.line_shapes.specs.Lines.{Says, Statement, words_after, words_in}
 use Rattle.line_shapes.specs.declared.keyword.Keyword.{Keyword}
 use Rattle.line_rules.specs.Faults.{IsFit, IsLeastOf}
 use Rattle.line_rules.specs.Known.{Known, entered, known_at}
@@ -37,6 +38,12 @@ pub record HasKeyword (k : Known) (line : Line) : Type 0 where
   pub keyword : Keyword
   pub words : List Word
   pub begins : words_in keyword line ≡ spelling_of keyword ∷ words
+
+-- the line has none of the faults that are found without memory, and begins with this keyword; rest is what
+-- follows the space after it
+pub record IsCut (k : Known) (line : Line) (keyword : Keyword) (rest : Option (Bor (List ℕ))) : Type 0 where
+  pub legible : IsLegible k line
+  pub begins : words_in keyword line ≡ spelling_of keyword ∷ words_after keyword rest
 
 -- the fault that is answered is the least of those that apply
 abbrev pub IsLeastError : (Fault → Type 0) → LineError → Type 0

@@ -7,8 +7,8 @@ use std::alloc::{AllocError, Global};
 use std::marker::Model;
 
 /// Commands, in their order. What follows the keyword of a command of many words is kept as it stands in the
-/// text, and is cut into words when the command is asked for: a list of its words would take up to eight times as
-/// much memory as its text.
+/// text, and is cut into words when the command is asked for: a list of its words would take up to eight times
+/// as much memory as its text.
 #[derive(Drop)]
 pub struct CommandList<'t> {
     commands: Vec<CommandText<'t>>,
@@ -77,8 +77,8 @@ impl<'t> CommandList<'t> {
         })
     }
 
-    /// Puts a command behind the others; `rest` is what follows the space after its keyword. After an error it was
-    /// not put.
+    /// Puts a command behind the others; `rest` is what follows the space after its keyword. After an error it
+    /// was not put.
     pub fn push(
         &mut self,
         line: &KeyedLine<'_, 't>,

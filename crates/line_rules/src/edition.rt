@@ -29,6 +29,7 @@ pub enum Edition {
 }
 
 /// What lines of this keyword have to do with the version of their text.
+#[inline(always)]
 pub fn edition_of(keyword: Keyword) -> Edition
     ensures { result ≡ editions keyword }
 {
@@ -48,6 +49,7 @@ pub fn edition_of(keyword: Keyword) -> Edition
 }
 
 /// Whether lines of this keyword may stand in a text of the version.
+#[inline(always)]
 pub fn is_of_version(keyword: Keyword, version: Version) -> bool
     ensures { IsTrue result ↔ IsOfVersion (editions keyword) version }
 {
@@ -61,6 +63,7 @@ pub fn is_of_version(keyword: Keyword, version: Version) -> bool
 }
 
 /// The version of a text after a line, where it was this before.
+#[inline(always)]
 pub fn version_after(version: Version, line: &KeyedLine<'_, '_>) -> Version
     ensures { result ≡ version_by (editions line.now.keyword) version (map (λ w. w.now) line.now.words.now) }
 {

@@ -43,6 +43,7 @@ pub enum Follow {
 pub const MORE_PLACES: usize = 254;
 
 /// How the lines of a keyword are entered.
+#[inline(always)]
 pub fn entering_of(keyword: Keyword) -> Entering
     ensures { result ≡ entering keyword }
 {
@@ -62,6 +63,7 @@ pub fn entering_of(keyword: Keyword) -> Entering
 }
 
 /// How many lines of a keyword there may be, where there is a limit; of commands, how many in all.
+#[inline(always)]
 pub fn most_of(version: Version, purpose: Purpose, keyword: Keyword) -> Option<usize>
     ensures { result ≡ most version purpose keyword }
 {
@@ -86,6 +88,7 @@ pub fn most_of(version: Version, purpose: Purpose, keyword: Keyword) -> Option<u
     }
 }
 
+#[inline(always)]
 fn most_workers(version: Version, purpose: Purpose) -> usize
     ensures { result ≡ workers version purpose }
 {
@@ -97,18 +100,21 @@ fn most_workers(version: Version, purpose: Purpose) -> usize
     }
 }
 
+#[inline(always)]
 fn most_splits(version: Version) -> usize
     ensures { result ≡ splits version }
 {
     newer_limit(version, 1024, 131_072)
 }
 
+#[inline(always)]
 fn most_documents(version: Version) -> usize
     ensures { result ≡ documents version }
 {
     newer_limit(version, 65_536, 1_048_576)
 }
 
+#[inline(always)]
 fn most_commands(version: Version) -> usize
     ensures { result ≡ commands version }
 {
@@ -116,6 +122,7 @@ fn most_commands(version: Version) -> usize
 }
 
 // The greater of two limits, `more`, holds in version 3.
+#[inline(always)]
 fn newer_limit(version: Version, less: usize, more: usize) -> usize
     ensures { result ≡ newer version less more }
 {
@@ -126,6 +133,7 @@ fn newer_limit(version: Version, less: usize, more: usize) -> usize
 }
 
 /// How many words may follow those in the places of a line, where there is a limit.
+#[inline(always)]
 pub fn most_more_of(version: Version, keyword: Keyword) -> Option<usize>
     ensures { result ≡ most_words version keyword }
 {
@@ -142,6 +150,7 @@ pub fn most_more_of(version: Version, keyword: Keyword) -> Option<usize>
 }
 
 // How many holders a split may have.
+#[inline(always)]
 fn most_holders(version: Version) -> usize
     ensures { result ≡ holders version }
 {
@@ -149,6 +158,7 @@ fn most_holders(version: Version) -> usize
 }
 
 /// Which words have to follow those in the places of a line.
+#[inline(always)]
 pub fn follow_of(keyword: Keyword) -> Follow
     ensures { result ≡ follow keyword }
 {

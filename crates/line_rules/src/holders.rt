@@ -1,12 +1,13 @@
-ghost use Rattle.std.specs.Prelude.{◌≡◌, ◌↔◌, [], List, IfOk, IsTrue, MatchOption, map};
+ghost use Rattle.std.specs.Prelude.{◌≡◌, ◌↔◌, [], IfOk, IsTrue, MatchOption, map};
 ghost use Rattle.std.specs.List.{All};
-ghost use Rattle.line_shapes.specs.Lines.{Statement, stated};
-ghost use Rattle.line_shapes.specs.declared.keyword.Keyword.TheVariants.{Worker};
+ghost use Rattle.line_shapes.specs.Lines.{HasTailApart, stated};
+ghost use Rattle.line_shapes.specs.declared.keyword.Keyword.TheVariants.{Split, Worker};
 ghost use Rattle.line_rules.specs.Entered.{AreFit};
 ghost use Rattle.line_rules.specs.Holders.{AreHoldersOf, AreNumbersOf, IsHeld, IsWorker};
 ghost use Rattle.line_rules.specs.Known.{HasNumber};
-ghost use Rattle.line_rules.specs.declared.edition.Version.{Version};
 
+use crate::edition::Version;
+use crate::fit::is_fit;
 use crate::rows::{Rows, short_number};
 use line_shapes::Keyword;
 use std::alloc::AllocError;
@@ -34,16 +35,31 @@ pub fn find_holders(
     }
 }
 
-/// The words of a line of which it is left to ask whether they are fit, once its holders were looked for.
+/// Whether the words before the holders of a split's line are fit.
 #[inline(always)]
-pub fn words_to_ask<'w, 't>(held: bool, keyword: Keyword, words: &'w [&'t str]) -> &'w [&'t str]
-    ensures { (rows : List Statement) (version : Version)
-        → (IsTrue held → IsHeld rows (stated keyword words.now)) → AreFit version rows (stated keyword result.now)
-        → AreFit version rows (stated keyword words.now) }
+pub fn is_fit_before_holders(rows: &Rows<'_>, version: Version, words: &[&str]) -> bool
+    ensures { IsTrue result → IsHeld rows.now (stated Split words.now)
+        → AreFit version rows.now (stated Split words.now) }
+{
+    if words.len() < FIRST_HOLDER {
+        return false;
+    }
+    if !is_fit(rows, version, Keyword::Split.place(0), words[0]) {
+        return false;
+    }
+    is_fit(rows, version, Keyword::Split.place(1), words[1])
+}
+
+/// Whether no holder stands twice in a split's line, by the numbers of its holders. False is answered of
+/// every other line.
+#[inline(always)]
+pub fn are_holders_apart(rows: &Rows<'_>, keyword: Keyword, words: &[&str], numbers: &[u32]) -> bool
+    requires { AreHoldersOf rows.now (stated keyword words.now) numbers.now }
+    ensures { IsTrue result → HasTailApart (stated keyword words.now) }
 {
     match keyword {
-        Keyword::Split if held => &words[..words.len().min(FIRST_HOLDER)],
-        _ => words,
+        Keyword::Split => rows.are_workers_apart(numbers),
+        _ => false,
     }
 }
 
@@ -54,11 +70,12 @@ fn put_numbers(rows: &Rows<'_>, names: &[&str], numbers: &mut Vec<u32>) -> Resul
     ensures numbers { IfOk result (λ held. IsTrue held
         → AreNumbersOf rows.now (map (λ n. n.now) names.now) numbers.new.items) }
 {
+    numbers.reserve(names.len())?;
     for i in 0..names.len() {
         let Some(number) = worker_number(rows, names[i]) else {
             return Ok(false);
         };
-        numbers.push(short_number(number)?)?;
+        numbers.push_reserved(short_number(number)?);
     }
     Ok(true)
 }

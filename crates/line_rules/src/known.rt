@@ -97,7 +97,7 @@ impl<'t> KnownLines<'t> {
             MOST_ROOM.min(bytes / BYTES_OF_A_LINE),
             MOST_ROOM.min(bytes / BYTES_OF_A_WORD),
         );
-        let rows = Rows::with_room(alloc, lines, words)?;
+        let rows = Rows::with_room(alloc, lines, words, bytes / BYTES_OF_A_LINE)?;
         Ok(KnownLines {
             purpose,
             version: Version::One,
@@ -158,6 +158,7 @@ impl<'t> KnownLines<'t> {
     }
 
     // Whether as many words follow those in the places of the line as have to.
+    #[inline(always)]
     fn is_whole(&self, line: &KeyedLine<'_, '_>) -> bool
         requires { length (places_of line.now.keyword) ≤ length line.now.words.now }
         ensures { IsTrue result ↔ IsComplete self.now (statement_of line.now) }
@@ -171,12 +172,14 @@ impl<'t> KnownLines<'t> {
         }
     }
 
+    #[inline(always)]
     fn may_stand(&self, line: &KeyedLine<'_, '_>) -> bool
         ensures { IsTrue result ↔ MayStand self.now (statement_of line.now) }
     {
         self.is_in_section(line.keyword) && is_of_version(line.keyword, self.version)
     }
 
+    #[inline(always)]
     fn is_in_section(&self, keyword: Keyword) -> bool
         ensures { IsTrue result ↔ (section_in self.now.purpose keyword ≡ Some self.now.section) }
     {
@@ -186,6 +189,7 @@ impl<'t> KnownLines<'t> {
         }
     }
 
+    #[inline(always)]
     fn is_new(&self, fit: bool, bar: Option<(u32, u32)>, line: &KeyedLine<'_, '_>) -> bool
         requires places { length (places_of line.now.keyword) ≤ length line.now.words.now }
         requires fit { IsTrue fit → AreFit self.now.version self.now.rows (statement_of line.now) }
@@ -196,6 +200,7 @@ impl<'t> KnownLines<'t> {
             && (is_entered_by_new_name(line.keyword) || is_first_in_head(&self.rows, bar, line))
     }
 
+    #[inline(always)]
     fn is_in_range(&self, fit: bool, line: &KeyedLine<'_, '_>) -> bool
         requires { IsTrue fit → AreFit self.now.version self.now.rows (statement_of line.now) }
         ensures { IsTrue result ↔ AreInRange self.now.version (statement_of line.now) }
@@ -203,12 +208,14 @@ impl<'t> KnownLines<'t> {
         (fit || line.is_in_range()) && is_of_size(self.version, line) && are_rising(line)
     }
 
+    #[inline(always)]
     fn is_within_limit(&self, line: &KeyedLine<'_, '_>) -> bool
         ensures { IsTrue result ↔ IsWithinLimit self.now (statement_of line.now) }
     {
         self.has_room(line) && is_few(self.version, line)
     }
 
+    #[inline(always)]
     fn has_room(&self, line: &KeyedLine<'_, '_>) -> bool
         ensures { IsTrue result
             ↔ IsFewer (most_in self.now.version self.now.purpose line.now.keyword)
@@ -246,6 +253,7 @@ impl<'t> KnownLines<'t> {
     /// The least fault of a line after these, if it has one. `fit` says that its words are known to be fit, and
     /// `apart` that no name is known to stand twice where it may not; `bar` are the numbers of the pair that it
     /// bars, where they are known.
+    #[inline(always)]
     pub fn fault_of(
         &self,
         fit: bool,
@@ -289,6 +297,7 @@ impl<'t> KnownLines<'t> {
     /// Takes one line more; `rest` is what follows the space after its keyword, `bar` are the numbers of the
     /// pair that it bars, where they are known, and `holders` the numbers of its holders. After an error it
     /// was not taken.
+    #[inline(always)]
     pub fn enter(
         &mut self,
         line: &KeyedLine<'_, 't>,
@@ -304,7 +313,7 @@ impl<'t> KnownLines<'t> {
         ensures err { OnErr result (self.new ≡ self.old) }
     {
         let count = self.holders.len();
-        self.holders.extend_from_slice(holders)?;
+        add_numbers(&mut self.holders, holders)?;
         match put(line, rest, bar, &mut self.rows, &mut self.commands) {
             Ok(()) => {
                 self.version = version_after(self.version, line);
@@ -317,6 +326,20 @@ impl<'t> KnownLines<'t> {
             }
         }
     }
+}
+
+// Appends numbers to a list. Most splits have few holders: a loop appends few of them sooner than a copy of
+// memory does.
+#[inline(always)]
+fn add_numbers(list: &mut Vec<u32>, numbers: &[u32]) -> Result<(), AllocError>
+    ensures ok { OnOk result (list.new.items ≡ list.old.items ++ numbers.now) }
+    ensures err { OnErr result (list.new.items ≡ list.old.items) }
+{
+    list.reserve(numbers.len())?;
+    for number in numbers {
+        list.push_reserved(*number);
+    }
+    Ok(())
 }
 
 // Whether a line that declares something does so for the first time, as one does that bars a new pair.
@@ -360,6 +383,7 @@ fn keeps(fit: bool, rule: Rule, rows: &Rows<'_>, line: &KeyedLine<'_, '_>) -> bo
 
 // Whether no name stands twice where it may not. Of many splits it is found by their numbers: each two names
 // would take long to compare.
+#[inline(always)]
 fn is_apart(apart: bool, rows: &Rows<'_>, line: &KeyedLine<'_, '_>) -> bool
     requires places { length (places_of line.now.keyword) ≤ length line.now.words.now }
     requires apart { IsTrue apart → HasTailApart (statement_of line.now) }
@@ -369,6 +393,7 @@ fn is_apart(apart: bool, rows: &Rows<'_>, line: &KeyedLine<'_, '_>) -> bool
 }
 
 // Whether a join of many splits is known to name one of them twice.
+#[inline(always)]
 fn has_split_twice(rows: &Rows<'_>, line: &KeyedLine<'_, '_>) -> bool
     ensures { IsTrue result → HasTailApart (statement_of line.now) → ⊥ }
 {
@@ -379,6 +404,7 @@ fn has_split_twice(rows: &Rows<'_>, line: &KeyedLine<'_, '_>) -> bool
 }
 
 // How many centres a rack names in a text of the version.
+#[inline(always)]
 pub(crate) fn centres_in(version: Version) -> usize
     ensures { result ≡ centres version }
 {
@@ -389,6 +415,7 @@ pub(crate) fn centres_in(version: Version) -> usize
 }
 
 // The most bytes of a split in a text of the version.
+#[inline(always)]
 fn most_bytes(version: Version) -> u64
     ensures { result ≡ most_bytes version }
 {
@@ -399,6 +426,7 @@ fn most_bytes(version: Version) -> u64
 }
 
 // The most slots of a worker in a text of the version.
+#[inline(always)]
 fn most_slots(version: Version) -> u64
     ensures { result ≡ most_slots version }
 {
@@ -410,6 +438,7 @@ fn most_slots(version: Version) -> u64
 
 // Whether the line gives a split no more bytes, and a worker no more slots, than they may have in a text of
 // the version. In the newest version they may have as many as the ranges of their places allow.
+#[inline(always)]
 fn is_of_size(version: Version, line: &KeyedLine<'_, '_>) -> bool
     requires { IsInRange (statement_of line.now) }
     ensures { IsTrue result ↔ IsOfSize version line.now.keyword (statement_of line.now).words }
@@ -421,6 +450,7 @@ fn is_of_size(version: Version, line: &KeyedLine<'_, '_>) -> bool
 }
 
 // The same, by the number that the line gives. Its word is a number, since the line is in range.
+#[inline(always)]
 fn is_within_size(version: Version, line: &KeyedLine<'_, '_>) -> bool
     requires { IsInRange (statement_of line.now) }
     ensures { IsTrue result ↔ IsOfSize version line.now.keyword (statement_of line.now).words }
@@ -433,6 +463,7 @@ fn is_within_size(version: Version, line: &KeyedLine<'_, '_>) -> bool
 }
 
 // Whether the number at a place of the line, if it has that place, is at most so much.
+#[inline(always)]
 fn is_at_most(line: &KeyedLine<'_, '_>, place: usize, most: u64) -> bool
     requires { place < length line.now.words.now
         → IsNumber (slice_index_or (statement_of line.now).words place []) }
@@ -445,6 +476,7 @@ fn is_at_most(line: &KeyedLine<'_, '_>, place: usize, most: u64) -> bool
 }
 
 // Puts a line where lines of its keyword are entered. After an error it was not put.
+#[inline(always)]
 fn put<'t>(
     line: &KeyedLine<'_, 't>,
     rest: Option<&'t str>,

@@ -6,7 +6,8 @@
 //! (`specs/Entering.antt`). What a line says, a keyword and its words, is a statement
 //! (`KeyedLine`), and a statement that is entered is a row. `Rows` finds a row by its keyword and its number
 //! among the rows of that keyword, and the number by the words by which the row was entered. It keeps a
-//! barred pair by the numbers of its split and its worker, since a text may bar each of their pairs.
+//! barred pair by the numbers of its split and its worker, since a text may bar each of their pairs. A word
+//! that is a key alone stands in a hash table with chains (`specs/WordTable.antt`).
 //! `KnownLines` holds the rows and answers the least fault of the next line. It keeps the numbers of the
 //! holders of splits too (`specs/Holders.antt`), which are found as the names are tested. Each fault is one
 //! definition over the places of a line (`specs/Faults.antt`) and one test in the code. `fit_line` reads one
@@ -32,6 +33,7 @@ pub mod rows;
 pub mod rule;
 pub mod rules;
 pub mod section;
+mod word_table;
 
 pub use answer::fault_answer;
 pub use command_list::CommandList;

@@ -91,23 +91,26 @@ impl<'t> LineList<'t> {
     }
 
     /// Puts a line behind the others. After an error it was not put.
+    #[inline(always)]
     pub fn push(&mut self, line: &KeyedLine<'_, 't>) -> Result<(), AllocError>
         ensures ok { OnOk result (self.new ≡ self.old ++ Line (statement_of line.now) ∷ []) }
         ensures err { OnErr result (self.new ≡ self.old) }
     {
         let start = short_place(self.words.len())?;
-        self.words.extend_from_slice(line.words)?;
+        self.places.reserve(1)?;
+        add_words(&mut self.words, line.words)?;
         let end = short_place(self.words.len())?;
         let at = WordsPlace {
             keyword: line.keyword,
             start,
             end,
         };
-        self.places.push(LinePlace::Words(at))?;
+        self.places.push_reserved(LinePlace::Words(at));
         Ok(())
     }
 
-    /// Puts a barred pair behind the lines, by the numbers of its split and its worker. After an error it was not put.
+    /// Puts a barred pair behind the lines, by the numbers of its split and its worker. After an error it was
+    /// not put.
     pub fn push_bar(&mut self, first: u32, second: u32) -> Result<(), AllocError>
         ensures ok { OnOk result (self.new ≡ self.old ++ Bar first second ∷ []) }
         ensures err { OnErr result (self.new ≡ self.old) }
@@ -124,7 +127,22 @@ impl<'t> LineList<'t> {
     }
 }
 
+// Appends words to a list. Most lines have few words: a loop appends few of them sooner than a copy of memory
+// does.
+#[inline(always)]
+fn add_words<'t>(list: &mut Vec<&'t str>, words: &[&'t str]) -> Result<(), AllocError>
+    ensures ok { OnOk result (list.new.items ≡ list.old.items ++ words.now) }
+    ensures err { OnErr result (list.new.items ≡ list.old.items) }
+{
+    list.reserve(words.len())?;
+    for word in words {
+        list.push_reserved(*word);
+    }
+    Ok(())
+}
+
 // A place among the words in 32 bits. A list of more words than these count is an error of memory.
+#[inline(always)]
 fn short_place(place: usize) -> Result<u32, AllocError>
     ensures { IfOk result (λ short. short ≡ place) }
 {

@@ -1,9 +1,9 @@
 ghost use Rattle.std.specs.Prelude.{◌≡◌, ◌↔◌, ◌+◌, ◌≤◌, [], Err, IfErr, IfOk, IsTrue, MatchOption, OnOk};
 ghost use Rattle.std.specs.Prelude.{All, length};
-ghost use Rattle.text_lines.specs.Texts.{IsPrintable};
+ghost use Rattle.text_lines.specs.Texts.{IsPrintable, Line};
 ghost use Rattle.line_rules.specs.Faults.{IsLeastOf};
 ghost use Rattle.line_rules.specs.Known.{known_at};
-ghost use Rattle.line_rules.specs.Reading.{HasKeyword, IsAllRead, IsLeastError, IsReadingError, Takes};
+ghost use Rattle.line_rules.specs.Reading.{HasKeyword, IsAllRead, IsCut, IsLeastError, IsReadingError, Takes};
 ghost use Rattle.line_rules.specs.Reading.{error_at};
 ghost use Rattle.line_rules.specs.Texts.{LineHas, RestHas};
 ghost use Rattle.text_lines.specs.Streams.{longest};
@@ -12,9 +12,10 @@ ghost use Rattle.line_rules.specs.declared.line_reader.LineError.TheVariants.{Me
 ghost use Rattle.line_rules.specs.declared.line_reader.ReadingError.TheVariants as reading;
 
 use crate::known::KnownLines;
-use crate::one_line::fit_line_in;
+use crate::one_line::{cut_keyword, fit_after};
 use crate::purpose::Purpose;
 use crate::section::Section;
+use line_shapes::{KeyedLine, Keyword};
 use std::alloc::{AllocError, Global};
 use text_lines::{Fault, TextFault, has_printable_lines, longest, split_line};
 
@@ -103,6 +104,7 @@ fn take_lines<'t>(
 
 // Takes a line, given without its line feed. `printable` says that all its bytes are known to be printable.
 // The line's words and the numbers of its holders replace what `words` and `holders` had.
+#[inline(never)]
 fn take_line<'t>(
     words: &mut Vec<&'t str>,
     holders: &mut Vec<u32>,
@@ -115,9 +117,52 @@ fn take_line<'t>(
     ensures err { IfErr result (IsLeastError (LineHas known.old line.entry.now)) }
     ensures memory { result ≡ Err LineError.Memory → HasKeyword known.old line.entry.now }
 {
-    let fit = fit_line_in(words, holders, printable, line, known)?;
-    known.enter(&fit.line, fit.rest, fit.bar, holders)?;
+    let (keyword, rest) = cut_keyword(printable, line, known)?;
+    match keyword {
+        Keyword::Split => take_words(words, holders, Keyword::Split, rest, known),
+        _ => take_other_words(words, holders, keyword, rest, known),
+    }
+}
+
+// Takes a line that begins with this keyword; `rest` is what follows the space after it. The function is
+// inlined for each keyword of many lines, so that the compiler finds what depends on the keyword alone.
+#[inline(always)]
+fn take_words<'t>(
+    words: &mut Vec<&'t str>,
+    holders: &mut Vec<u32>,
+    keyword: Keyword,
+    rest: Option<&'t str>,
+    known: &mut KnownLines<'t>,
+) -> Result<(), LineError>
+    ensures ok { OnOk result ((line : Line) → IsCut known.old line keyword rest.entry
+        → Takes known.old line known.new) }
+    ensures err { IfErr result (λ error. (line : Line) → IsCut known.old line keyword rest.entry
+        → IsLeastError (LineHas known.old line) error) }
+{
+    let bar = fit_after(words, holders, keyword, rest, known)?;
+    known.enter(&KeyedLine { keyword, words }, rest, bar, holders)?;
     Ok(())
+}
+
+// The same for a line that is no split's.
+#[inline(never)]
+fn take_other_words<'t>(
+    words: &mut Vec<&'t str>,
+    holders: &mut Vec<u32>,
+    keyword: Keyword,
+    rest: Option<&'t str>,
+    known: &mut KnownLines<'t>,
+) -> Result<(), LineError>
+    ensures ok { OnOk result ((line : Line) → IsCut known.old line keyword rest.entry
+        → Takes known.old line known.new) }
+    ensures err { IfErr result (λ error. (line : Line) → IsCut known.old line keyword rest.entry
+        → IsLeastError (LineHas known.old line) error) }
+{
+    match keyword {
+        Keyword::Worker => take_words(words, holders, Keyword::Worker, rest, known),
+        Keyword::Barred => take_words(words, holders, Keyword::Barred, rest, known),
+        _ => take_words(words, holders, keyword, rest, known),
+    }
 }
 
 pub(crate) fn is_ended(known: &KnownLines<'_>) -> bool

@@ -28,6 +28,7 @@ const MARKS: usize = 1_024;
 
 /// Puts the words after a keyword into a list, in place of what it has. Where there are more than lines of
 /// this keyword may have, one of those past them stands for all.
+#[inline(always)]
 pub fn cut_most<'t>(
     known: &KnownLines<'_>,
     keyword: Keyword,
@@ -48,6 +49,7 @@ pub fn cut_most<'t>(
 
 // How many words a line of this keyword may have after these lines, or the greatest number if that is more.
 // A line with more words has a fault, whatever the words are.
+#[inline(always)]
 fn most_words(known: &KnownLines<'_>, keyword: Keyword) -> usize
     ensures { (result ≡ most known.now keyword) ⊎ (result ≡ 18446744073709551615) }
 {
@@ -57,6 +59,7 @@ fn most_words(known: &KnownLines<'_>, keyword: Keyword) -> usize
         .saturating_add(most_more(known, keyword))
 }
 
+#[inline(always)]
 fn most_more(known: &KnownLines<'_>, keyword: Keyword) -> usize
     ensures { result ≡ most_after (follows keyword) (most_words_of known.now.version keyword) known.now }
 {
@@ -84,6 +87,7 @@ fn worst_word<'t>(rows: &Rows<'_>, version: Version, place: Option<Place>, left:
 }
 
 // The first of the words that have the least, by one pass. `marked` has words that have no less.
+#[inline(never)]
 fn worst_in<'t>(rows: &Rows<'_>, version: Version, place: Option<Place>, left: &'t str) -> &'t str
     ensures one { Contains (words_of left.entry.now) result.now }
     ensures worst { IsWorst version rows.now place (words_of left.entry.now) result.now }

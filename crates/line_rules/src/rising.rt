@@ -10,6 +10,7 @@ use line_shapes::{KeyedLine, Keyword};
 use text_lines::value_in;
 
 /// Whether no price of a place in the line is lower than the one before it.
+#[inline(always)]
 pub fn are_rising(line: &KeyedLine<'_, '_>) -> bool
     requires { IsInRange (statement_of line.now) }
     ensures { IsTrue result ↔ AreRising line.now.keyword (statement_of line.now).words }

@@ -13,12 +13,15 @@ ghost use Rattle.line_shapes.specs.Lines.{Statement, statement_of};
 ghost use Rattle.line_shapes.specs.declared.keyword.Keyword.{Keyword};
 ghost use Rattle.line_shapes.specs.declared.keyword.Keyword.TheVariants.{Barred, Split, Worker};
 ghost use Rattle.line_rules.specs.Entering.{entered_of, entering_of as entering, key_of};
+ghost use Rattle.line_rules.specs.Holders.{AreNumbersOf};
 ghost use Rattle.line_rules.specs.Known.{HasNumber, HasRow, keys_of, rows_of};
+ghost use Rattle.text_lines.specs.Texts.{Word};
 ghost use Rattle.line_rules.specs.declared.entering.Entering.TheVariants.{Nothing};
 
 use crate::entering::{Entering, entering_of};
 use crate::line_list::{KeptLine, LineList};
 use crate::rules::{first_of_key, second_of_key, word_at};
+use crate::word_table::WordTable;
 use indexmap::IndexMap;
 use line_shapes::{KeyedLine, Keyword};
 use std::alloc::{AllocError, Global};
@@ -50,7 +53,7 @@ pub struct Rows<'t> {
     places: Vec<Vec<usize>>,
     // Of each word that is a key alone: the keyword of the first line that was entered by it, and which one
     // of its keyword that line is.
-    firsts: IndexMap<&'t str, (Keyword, u32)>,
+    firsts: WordTable<'t>,
     // The number of each barred pair among all, by the numbers of its split and its worker.
     bars: IndexMap<(u32, u32), u32>,
     // For each other key the number of its line among the lines of its keyword.
@@ -104,12 +107,18 @@ impl<'t> Model for Rows<'t> {
 }
 
 impl<'t> Rows<'t> {
-    /// No lines, with room for so many, and for their words.
-    pub fn with_room(alloc: Global, lines: usize, words: usize) -> Result<Rows<'t>, AllocError>
+    /// No lines, with room for so many lines and words. The table of the words that are keys alone has a mark
+    /// for each of so many names.
+    pub fn with_room(
+        alloc: Global,
+        lines: usize,
+        words: usize,
+        names: usize,
+    ) -> Result<Rows<'t>, AllocError>
         ensures { IfOk result (λ rows. rows ≡ []) }
     {
         let list = LineList::with_room(alloc, lines, words)?;
-        let firsts = IndexMap::with_capacity(alloc, lines)?;
+        let firsts = WordTable::with_room(alloc, lines, names)?;
         Ok(Rows {
             lines: list,
             places: no_places(alloc)?,
@@ -227,7 +236,7 @@ impl<'t> Rows<'t> {
         ensures { MatchOption result ((keyword : Keyword) → HasRow self.now keyword word.now → ⊥)
             (λ keyword. HasRow self.now keyword word.now) }
     {
-        match self.firsts.get(&word) {
+        match self.firsts.get(word) {
             Some(of) => Some(of.0),
             None => None,
         }
@@ -239,7 +248,7 @@ impl<'t> Rows<'t> {
     pub fn first_of(&self, keyword: Keyword, word: &str) -> Option<u32>
         ensures { IfSome result (HasNumber self.now (keyword, word.now, [])) }
     {
-        let of = self.firsts.get(&word)?;
+        let of = self.firsts.get(word)?;
         if of.0 == keyword { Some(of.1) } else { None }
     }
 
@@ -248,7 +257,7 @@ impl<'t> Rows<'t> {
     pub fn has_word(&self, word: &str) -> bool
         ensures { IsTrue result ↔ ((keyword : Keyword) × HasRow self.now keyword word.now) }
     {
-        self.firsts.contains_key(&word)
+        self.firsts.has(word)
     }
 
     /// Whether each of the names is that of a split, and no two are the same: it is found by the splits'
@@ -263,6 +272,16 @@ impl<'t> Rows<'t> {
         let is_great = names.len() > FEW_NAMES && self.count(Keyword::Split) > MARKS;
         let alloc = *self.places.allocator();
         have_numbers_apart(alloc, &self.firsts, names, is_great)
+    }
+
+    /// Whether these numbers name each worker at most once.
+    #[inline(always)]
+    pub fn are_workers_apart(&self, numbers: &[u32]) -> bool
+        ensures { IsTrue result → (names : List Word) → AreNumbersOf self.now names numbers.now
+            → AllPairs (λ a b. a ≢ b) names }
+    {
+        let _firsts = &self.firsts;
+        are_numbers_apart(numbers)
     }
 
     /// Whether one of these names stands twice: it is found by the numbers of the splits that they name.
@@ -291,6 +310,7 @@ impl<'t> Rows<'t> {
 
     /// Enters a line, if lines of its keyword are entered. `bar` are the numbers of the pair that it bars,
     /// where they are known. After an error nothing was entered.
+    #[inline(always)]
     pub fn enter(
         &mut self,
         line: &KeyedLine<'_, 't>,
@@ -312,6 +332,7 @@ impl<'t> Rows<'t> {
     }
 
     // Puts a barred pair behind the rows, by its numbers.
+    #[inline(never)]
     fn put_bar(&mut self, bar: (u32, u32)) -> Result<(), AllocError>
         requires within { AreNumbers self.old bar.0 bar.1 }
         requires new { Contains (keys_of self.old)
@@ -337,6 +358,7 @@ impl<'t> Rows<'t> {
     }
 
     // Puts a row behind the others, by its words.
+    #[inline(always)]
     fn put(&mut self, line: &KeyedLine<'_, 't>) -> Result<(), AllocError>
         requires { Contains (keys_of self.old) (key_of (statement_of line.now)) → ⊥ }
         ensures ok { OnOk result (self.new ≡ self.old ++ statement_of line.now ∷ []) }
@@ -370,7 +392,7 @@ impl<'t> Rows<'t> {
 // Which one of the lines of this keyword has this key in the tables of words.
 #[inline(always)]
 fn key_number(
-    firsts: &IndexMap<&str, (Keyword, u32)>,
+    firsts: &WordTable<'_>,
     others: &IndexMap<(Keyword, &str, &str), u32>,
     keyword: Keyword,
     first: &str,
@@ -382,7 +404,7 @@ fn key_number(
         (IsTabled firsts.now.entries others.now.entries (keyword, first.now, second.now)) }
 {
     if second.is_empty() {
-        let of = firsts.get(&first)?;
+        let of = firsts.get(first)?;
         if of.0 == keyword {
             return Some(of.1);
         }
@@ -406,7 +428,7 @@ fn has_other(
 
 // Which barred pair has these words, where it is kept by numbers.
 fn bar_number(
-    firsts: &IndexMap<&str, (Keyword, u32)>,
+    firsts: &WordTable<'_>,
     others: &IndexMap<(Keyword, &str, &str), u32>,
     bars: &IndexMap<(u32, u32), u32>,
     keyword: Keyword,
@@ -427,7 +449,7 @@ fn bar_number(
 
 // Which barred pair has these names, where it is kept by numbers.
 fn pair_number(
-    firsts: &IndexMap<&str, (Keyword, u32)>,
+    firsts: &WordTable<'_>,
     others: &IndexMap<(Keyword, &str, &str), u32>,
     bars: &IndexMap<(u32, u32), u32>,
     first: &str,
@@ -459,7 +481,7 @@ pub(crate) fn short_number(number: usize) -> Result<u32, AllocError>
 // Puts the numbers of a barred pair into their table, with which barred pair it is. After an error they were
 // not put.
 fn put_numbers(
-    firsts: &IndexMap<&str, (Keyword, u32)>,
+    firsts: &WordTable<'_>,
     bars: &mut IndexMap<(u32, u32), u32>,
     bar: (u32, u32),
     number: u32,
@@ -475,12 +497,7 @@ fn put_numbers(
 
 // Whether each name stands in the table as that of a split, with a number that no name before it has; all
 // numbers have their marks if `is_great`, and else those below `MARKS`.
-fn have_numbers_apart(
-    alloc: Global,
-    firsts: &IndexMap<&str, (Keyword, u32)>,
-    names: &[&str],
-    is_great: bool,
-) -> bool
+fn have_numbers_apart(alloc: Global, firsts: &WordTable<'_>, names: &[&str], is_great: bool) -> bool
     ensures named { IsTrue result → NameSplits firsts.now.entries names.now }
     ensures apart { IsTrue result → AllPairs (λ a b. a.now ≢ b.now) names.now }
 {
@@ -492,14 +509,14 @@ fn have_numbers_apart(
 }
 
 #[inline(never)]
-fn have_few_marks(firsts: &IndexMap<&str, (Keyword, u32)>, names: &[&str]) -> bool
+fn have_few_marks(firsts: &WordTable<'_>, names: &[&str]) -> bool
     ensures named { IsTrue result → NameSplits firsts.now.entries names.now }
     ensures apart { IsTrue result → AllPairs (λ a b. a.now ≢ b.now) names.now }
 {
     have_marks(firsts, names, &mut [false; MARKS])
 }
 
-fn have_many_marks(alloc: Global, firsts: &IndexMap<&str, (Keyword, u32)>, names: &[&str]) -> bool
+fn have_many_marks(alloc: Global, firsts: &WordTable<'_>, names: &[&str]) -> bool
     ensures named { IsTrue result → NameSplits firsts.now.entries names.now }
     ensures apart { IsTrue result → AllPairs (λ a b. a.now ≢ b.now) names.now }
 {
@@ -510,7 +527,7 @@ fn have_many_marks(alloc: Global, firsts: &IndexMap<&str, (Keyword, u32)>, names
 }
 
 // Whether each name is that of a split, with a number whose mark no name before it has put.
-fn have_marks(firsts: &IndexMap<&str, (Keyword, u32)>, names: &[&str], seen: &mut [bool]) -> bool
+fn have_marks(firsts: &WordTable<'_>, names: &[&str], seen: &mut [bool]) -> bool
     ensures named { IsTrue result → NameSplits firsts.now.entries names.now }
     ensures apart { IsTrue result → AllPairs (λ a b. a.now ≢ b.now) names.now }
 {
@@ -527,8 +544,36 @@ fn have_marks(firsts: &IndexMap<&str, (Keyword, u32)>, names: &[&str], seen: &mu
     true
 }
 
+// Whether no number stands twice.
+#[inline(always)]
+fn are_numbers_apart(numbers: &[u32]) -> bool
+    ensures { IsTrue result → AllPairs (λ a b. a ≢ b) numbers.now }
+{
+    for i in 0..numbers.len() {
+        if stands_before(numbers, i) {
+            return false;
+        }
+    }
+    true
+}
+
+// Whether the number at a place stands at an earlier one too.
+#[inline(always)]
+fn stands_before(numbers: &[u32], i: usize) -> bool
+    requires { i < length numbers.now }
+    ensures { result ≡ false → (k : ℕ) (d : ℕ) → k < i
+        → slice_index_or numbers.now k d ≢ slice_index_or numbers.now i d }
+{
+    for k in 0..i {
+        if numbers[k] == numbers[i] {
+            return true;
+        }
+    }
+    false
+}
+
 // Whether two of the names belong to one split in the table.
-fn is_number_twice(alloc: Global, firsts: &IndexMap<&str, (Keyword, u32)>, names: &[&str]) -> bool
+fn is_number_twice(alloc: Global, firsts: &WordTable<'_>, names: &[&str]) -> bool
     ensures { IsTrue result → NameTwice firsts.now.entries names.now }
 {
     let Ok(mut marks) = vec![in alloc; false; MANY_MARKS] else {
@@ -538,11 +583,7 @@ fn is_number_twice(alloc: Global, firsts: &IndexMap<&str, (Keyword, u32)>, names
 }
 
 // The same by a table of marks, of which none is put yet.
-fn is_marked_twice(
-    firsts: &IndexMap<&str, (Keyword, u32)>,
-    names: &[&str],
-    marked: &mut [bool],
-) -> bool
+fn is_marked_twice(firsts: &WordTable<'_>, names: &[&str], marked: &mut [bool]) -> bool
     requires { (m : ℕ) → slice_index_or marked.old m false ≡ false }
     ensures { IsTrue result → NameTwice firsts.now.entries names.now }
 {
@@ -564,15 +605,15 @@ fn is_marked_twice(
 
 // The number of the split whose name stands in the table.
 #[inline(always)]
-fn split_in(firsts: &IndexMap<&str, (Keyword, u32)>, name: &str) -> Option<u32>
+fn split_in(firsts: &WordTable<'_>, name: &str) -> Option<u32>
     ensures { IfSome result (λ n. (0 < length name.now)
         × (first_by firsts.now.entries name.now ≡ Some (Split, n))) }
 {
     if name.is_empty() {
         return None;
     }
-    match firsts.get(&name) {
-        Some((Keyword::Split, number)) => Some(*number),
+    match firsts.get(name) {
+        Some((Keyword::Split, number)) => Some(number),
         _ => None,
     }
 }
@@ -589,8 +630,9 @@ fn no_places(alloc: Global) -> Result<Vec<Vec<usize>>, AllocError>
 }
 
 // Puts a key that is new into its table. After an error it was not put.
+#[inline(always)]
 fn put_key<'t>(
-    firsts: &mut IndexMap<&'t str, (Keyword, u32)>,
+    firsts: &mut WordTable<'t>,
     others: &mut IndexMap<(Keyword, &'t str, &'t str), u32>,
     keyword: Keyword,
     first: &'t str,
@@ -611,10 +653,11 @@ fn put_key<'t>(
     Ok(())
 }
 
-// Puts a word that is a key alone into the first table, by one hash of it. Where it stands there by another
-// keyword, that stays, and the key has no place there.
+// Puts a word that is a key alone into the first table. Where it stands there by another keyword, that entry
+// stays, and the key is not put.
+#[inline(always)]
 fn put_first<'t>(
-    firsts: &mut IndexMap<&'t str, (Keyword, u32)>,
+    firsts: &mut WordTable<'t>,
     keyword: Keyword,
     word: &'t str,
     number: u32,
@@ -626,20 +669,19 @@ fn put_first<'t>(
         × IsSome (first_by firsts.old.entries word.now) }
     ensures err { OnErr result (firsts.new.entries ≡ firsts.old.entries) }
 {
-    let of = *firsts.entry(word)?.or_insert((keyword, number));
-    Ok(of.0 == keyword)
+    firsts.put(word, (keyword, number))
 }
 
 // Before the first key is put into another table: makes room there for as many as the first table still has
 // room for.
 fn make_room<K: Eq + Hash>(
-    firsts: &IndexMap<&str, (Keyword, u32)>,
+    firsts: &WordTable<'_>,
     table: &mut IndexMap<K, u32>,
 ) -> Result<(), AllocError>
     ensures { table.new.entries ≡ table.old.entries }
 {
     if table.is_empty() {
-        table.reserve(firsts.capacity() - firsts.len())?;
+        table.reserve(firsts.spare())?;
     }
     Ok(())
 }

@@ -114,6 +114,7 @@ pub fn is_first(rows: &Rows<'_>, line: &KeyedLine<'_, '_>) -> bool
 }
 
 /// The first word of a line's key, empty where it has none.
+#[inline(always)]
 pub fn first_of_key<'t>(line: &KeyedLine<'_, 't>) -> &'t str
     ensures { result.now ≡ first_key (entering line.now.keyword) (statement_of line.now).words }
 {
@@ -125,6 +126,7 @@ pub fn first_of_key<'t>(line: &KeyedLine<'_, 't>) -> &'t str
 }
 
 /// The second word of a line's key, empty where it has none.
+#[inline(always)]
 pub fn second_of_key<'t>(line: &KeyedLine<'_, 't>) -> &'t str
     ensures { result.now ≡ second_key (entering line.now.keyword) (statement_of line.now).words }
 {
@@ -136,6 +138,7 @@ pub fn second_of_key<'t>(line: &KeyedLine<'_, 't>) -> &'t str
 }
 
 // The word at a place, empty past the last.
+#[inline(always)]
 pub(crate) fn word_at<'t>(words: &[&'t str], place: usize) -> &'t str
     ensures { result.now ≡ slice_index_or (map (λ w. w.now) words.now) place [] }
 {
@@ -146,6 +149,7 @@ pub(crate) fn word_at<'t>(words: &[&'t str], place: usize) -> &'t str
 }
 
 /// Whether no more words follow those in the places of the line than may in a text of the version.
+#[inline(always)]
 pub fn is_few(version: Version, line: &KeyedLine<'_, '_>) -> bool
     ensures { IsTrue result
         ↔ IsFew (most_words version line.now.keyword) (length (tail_words (statement_of line.now))) }
@@ -182,6 +186,7 @@ fn has_its_price(rows: &Rows<'_>, row: usize) -> bool
 
 /// Whether lines of this keyword are entered by the name that they declare; such a line is the first where
 /// its name is free.
+#[inline(always)]
 pub fn is_entered_by_new_name(keyword: Keyword) -> bool
     ensures { IsTrue result → (rows : List Statement) (words : List (Bor (List ℕ)))
         → length (places_of keyword) ≤ length words → Keep Free rows (stated keyword words)
@@ -194,6 +199,7 @@ pub fn is_entered_by_new_name(keyword: Keyword) -> bool
 }
 
 /// Whether lines of this keyword are commands.
+#[inline(always)]
 pub fn is_command(keyword: Keyword) -> bool
     ensures { IsTrue result ↔ (entering keyword ≡ InTurn) }
 {

@@ -19,6 +19,7 @@ pub enum Section {
 }
 
 /// The section in which a line of this keyword may stand, if the kind of text has such a line.
+#[inline(always)]
 pub fn section_of(purpose: Purpose, keyword: Keyword) -> Option<Section>
     ensures { result ≡ sections purpose keyword }
 {
@@ -30,6 +31,7 @@ pub fn section_of(purpose: Purpose, keyword: Keyword) -> Option<Section>
     }
 }
 
+#[inline(always)]
 fn section_in_check(keyword: Keyword) -> Option<Section>
     ensures { result ≡ in_check keyword }
 {
@@ -47,6 +49,7 @@ fn section_in_check(keyword: Keyword) -> Option<Section>
     }
 }
 
+#[inline(always)]
 fn section_in_plan(keyword: Keyword) -> Option<Section>
     ensures { result ≡ in_plan keyword }
 {
@@ -63,6 +66,7 @@ fn section_in_plan(keyword: Keyword) -> Option<Section>
     }
 }
 
+#[inline(always)]
 fn section_in_script(keyword: Keyword) -> Option<Section>
     ensures { result ≡ in_script keyword }
 {
@@ -80,6 +84,7 @@ fn section_in_script(keyword: Keyword) -> Option<Section>
     }
 }
 
+#[inline(always)]
 fn section_in_job(keyword: Keyword) -> Option<Section>
     ensures { result ≡ in_job keyword }
 {
@@ -97,6 +102,7 @@ fn section_in_job(keyword: Keyword) -> Option<Section>
 }
 
 /// The section after a line of this keyword.
+#[inline(always)]
 pub fn section_after(keyword: Keyword) -> Section
     ensures { result ≡ after keyword }
 {

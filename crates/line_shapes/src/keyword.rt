@@ -7,6 +7,7 @@ ghost use Rattle.line_shapes.specs.Places.{more_of, place_at, places_of};
 
 use crate::cut::first_word;
 use crate::place::{Kind, Place};
+use text_lines::are_same;
 
 /// The first word of a line.
 #[derive(Clone, Copy, PartialEq, Eq, Hash)]
@@ -47,14 +48,18 @@ pub enum Keyword {
 }
 
 impl Keyword {
-    /// The keyword that is spelled so. The arms are tried in turn: those of most lines come first.
+    /// The keyword that is spelled so. Those of most lines are tried first.
     pub fn of(word: &str) -> Option<Keyword>
         ensures { MatchOption result ((k : Keyword) → spelling_of k ≡ word.now → ⊥)
             (λ k. spelling_of k ≡ word.now) }
     {
+        if are_same(word, "split") {
+            return Some(Keyword::Split);
+        }
+        if are_same(word, "worker") {
+            return Some(Keyword::Worker);
+        }
         match word {
-            "split" => Some(Keyword::Split),
-            "worker" => Some(Keyword::Worker),
             "done" => Some(Keyword::Done),
             "wave" => Some(Keyword::Wave),
             "doc" => Some(Keyword::Doc),

@@ -4,7 +4,8 @@ use Rattle.std.specs.List.{flat_map, range_with_len}
 use Rattle.std.proofs.lemmas.List.{get_or_default}
 use Rattle.text_lines.proofs.NumberedLines.{lines_more}
 
--- the line of the element n, as the one of number k, after those of the elements below it
+-- Where the line of element n is added to the lines of the first n elements, these are then the lines of the
+-- first n + 1 elements. The caller's name for n is k.
 pub rows_more : {A : Type 0} (row : ℕ → A → List ℕ) (all : List A) (none x : A) (start now next : List ℕ)
     (n k : ℕ) → x ≡ get_or all n x → k ≡ n →
     now ≡ start ++ flat_map (λ i. row i (slice_index_or all i none)) (range_with_len 0 n) →

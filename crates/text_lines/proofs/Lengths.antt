@@ -1,5 +1,5 @@
 -- How long a text may be that begins in some way, and what is read of it.
-use Rattle.std.proofs.Common.{ℕ, List, ◌≡◌, ◌+◌, ◌≤◌, ◌∙◌, ◌++◌, ◌||◌, Bool, true, false, ap, arith, cond}
+use Rattle.std.proofs.Common.{ℕ, List, ◌≡◌, ◌+◌, ◌≤◌, ◌∙◌, ◌++◌, ◌||◌, Bool, true, false, ap, arith}
 use Rattle.std.proofs.Common.{drop, length, length-append, inl, inr, sym, take, take_all, append-nil, Option}
 use Rattle.std.proofs.Common.{IfSome, Some, None, refl}
 use Rattle.std.specs.Prelude.{◌==◌, codes}
@@ -16,10 +16,6 @@ use Rattle.text_lines.specs.Streams.{ConsumesAtMost, ConsumesText}
 
 pub longest-least : (text : List ℕ) → 16777216 ≤ longest text
 longest-least text =
-    elim (cases_Bool (is_long text)) [ inl is ↦ rw is (omega arith) | inr is ↦ rw is (omega arith) ]
-
-pub longest-most : (text : List ℕ) → longest text ≤ 268435456
-longest-most text =
     elim (cases_Bool (is_long text)) [ inl is ↦ rw is (omega arith) | inr is ↦ rw is (omega arith) ]
 
 -- as many bytes as a line has decide whether a text begins with it

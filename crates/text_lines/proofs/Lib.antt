@@ -8,3 +8,4 @@ pub mod Keys
 pub mod NumberedLines
 pub mod FirstByte
 pub mod Numerals
+pub mod Parts

@@ -10,6 +10,7 @@ pub mod fault;
 pub mod lines;
 pub mod names;
 pub mod number;
+pub mod same;
 pub mod streams;
 pub mod tables;
 
@@ -17,6 +18,7 @@ pub use fault::{Fault, TextFault, fault_line};
 pub use lines::{add_words, has_printable_lines, printable, printable_in, split_line, split_word};
 pub use names::{is_long_name, is_name};
 pub use number::{Number, value_in};
+pub use same::are_same;
 pub use streams::{
     MAX_READ_BYTES, MAX_READS, ReadError, WriteError, longest, read_text, write_text,
 };

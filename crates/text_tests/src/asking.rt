@@ -10,7 +10,7 @@ use wave_planner::NetworkKind;
 fn options_in(alloc: Global, words: &[&str]) -> Option<PlanOptions> {
     match ask(alloc, words) {
         Ok(Ask::Plan(options)) => Some(options),
-        Ok(Ask::Check(_) | Ask::Play(_) | Ask::Serve | Ask::Run(_) | Ask::Explain(_)) | Err(_) =>
+        Ok(Ask::Check(_) | Ask::Play(_) | Ask::Serve(_) | Ask::Run(_) | Ask::Explain(_)) | Err(_) =>
             None,
     }
 }
@@ -63,11 +63,32 @@ fn plan_is_asked_for(rt: HostRuntime) {
     }
 }
 
+// Whether the live master that the words ask for keeps waves for audits.
+fn keeps_waves(alloc: Global, words: &[&str]) -> Option<bool> {
+    match ask(alloc, words) {
+        Ok(Ask::Serve(options)) => Some(!options.no_audit),
+        Ok(Ask::Check(_) | Ask::Plan(_) | Ask::Play(_) | Ask::Run(_) | Ask::Explain(_)) | Err(_) =>
+            None,
+    }
+}
+
+#[test]
+fn serve_is_asked_for(rt: HostRuntime) {
+    let masters: [(&[&str], bool); 2] = [
+        (&["mrjob", "serve"], true),
+        (&["mrjob", "serve", "--no-audit"], false),
+    ];
+    for (words, kept) in masters {
+        assert_eq!(&rt; keeps_waves(rt.alloc(), words), Some(kept), "{words:?}");
+    }
+}
+
 // What the table says of the words that are asked for.
 fn said_of(alloc: Global, words: &[&str]) -> Option<String> {
     match ask(alloc, words) {
         Ok(Ask::Explain(entry)) => said(alloc, entry).ok(),
-        Ok(Ask::Check(_) | Ask::Plan(_) | Ask::Play(_) | Ask::Serve | Ask::Run(_)) | Err(_) => None,
+        Ok(Ask::Check(_) | Ask::Plan(_) | Ask::Play(_) | Ask::Serve(_) | Ask::Run(_)) | Err(_) =>
+            None,
     }
 }
 

@@ -1,36 +1,17 @@
-use block_map::HolderLimit;
 use command_runner::AnswerLines;
+use job_play::clusters::cluster_of;
 use job_play::{PlayEnd, fits, play_script};
-use master_core::Cluster;
 use script_text::read_script;
 use std::alloc::Global;
 
 const HEAD: &str = "script 1\nrack r\nworker a r 1\nsplit s 10 a\ndoc d s The cat\nbegin\n";
 
-// The cluster of a script's head.
-fn cluster_of(alloc: Global, text: &str) -> Option<Cluster> {
-    let Ok(read) = read_script(alloc, text.as_bytes()) else {
-        return None;
-    };
-    let head = read.head;
-    let (tree, splits, texts) = (head.tree, head.splits, head.texts);
-    let (slots, parts, silence) = (head.slots, head.parts, head.silence);
-    Cluster::new(
-        alloc,
-        tree,
-        slots.as_slice(),
-        splits,
-        texts,
-        parts,
-        silence,
-        HolderLimit::Eight,
-    )
-    .ok()
-}
-
 // How a script ends on a cluster that it fits, and its report.
 fn played(alloc: Global, script: &str, on: &str) -> Option<(PlayEnd, Vec<u8>)> {
-    let cluster = cluster_of(alloc, on)?;
+    let Ok(on) = read_script(alloc, on.as_bytes()) else {
+        return None;
+    };
+    let cluster = cluster_of(alloc, on.head).ok()?;
     let script = read_script(alloc, script.as_bytes()).ok()?.script;
     if !fits(&cluster, &script) {
         return None;

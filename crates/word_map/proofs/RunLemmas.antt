@@ -88,11 +88,6 @@ pub record AddsRunsBefore (old new : List Pair) (bytes : List ℕ) (document lim
 pub same_pair : {p q : Pair} → p.word ≡ q.word → p.document ≡ q.document → p ≡ q
 same_pair w d = λ i. record { word = w i; document = d i }
 
--- no run ends before the first one begins
-pub adds_none : {old : List Pair} {bytes : List ℕ} {document next : ℕ} → IsSpan bytes false 0 next →
-    AddsRunsBefore old old bytes document next
-adds_none {old} {bytes} {document} {next} gap = grind arith
-
 -- one more run
 pub adds_one_more : {old new newer : List Pair} {bytes : List ℕ} {document start stop next : ℕ} →
     BeginsRun bytes start → start < length bytes → IsSpan bytes true start stop →

@@ -1,5 +1,5 @@
 -- A table's pairs, by its words and as a list.
-use Rattle.std.proofs.Common.{◌≡◌, ℕ, ◌+◌, ◌<◌, Bool, true, false, cond, get_or, take, List, [], ◌∷◌, ◌++◌}
+use Rattle.std.proofs.Common.{[], ◌≡◌, ℕ, ◌+◌, ◌<◌, Bool, true, false, cond, get_or, take, List, ◌∷◌, ◌++◌}
 use Rattle.std.proofs.Common.{length, Some, None, Option, sym, refl, ap, ◌∙◌, subst, arith, inl, inr}
 use Rattle.std.proofs.Common.{◌⊎◌, ⊎_elim}
 use Rattle.std.specs.Prelude.{◌↔◌, Contains, Any, nat_eq}
@@ -93,9 +93,6 @@ adds_more entries i entry {old} {new} {newer} inside is before adds =
           );
     }
 
-pub adds_none : (old : List EntryView) → AddsPairs old old (Contains [])
-adds_none old = grind arith
-
 -- the pairs of an entry are its word with its documents
 pub adds_entry : (entry : EntryView) {old new : List EntryView} →
     AddsPairs old new (λ pair. (pair.word ≡ entry.word) × Contains entry.documents pair.document) →
@@ -146,8 +143,3 @@ pub pairs_of_reordered : (xs ys : List (List ℕ × SmallVec ℕ)) → IsPermuta
     Contains (pairs_of_index (views xs)) pair ↔ Contains (pairs_of_index (views ys)) pair
 pairs_of_reordered xs ys moved pair =
     search (arith, IsPermutation-map, pairs_of_permutation, IsPermutation-sym)
-
--- a table without words shows no entries
-pub no_entries : (entries : List (List ℕ × SmallVec ℕ)) → length entries ≡ 0 → views entries ≡ []
-no_entries [] none = refl
-no_entries (e ∷ entries) none = absurd (omega arith)

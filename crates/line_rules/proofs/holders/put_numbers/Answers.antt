@@ -1,4 +1,4 @@
-use Rattle.std.proofs.Common.{◌+◌, refl, take}
+use Rattle.std.proofs.Common.{◌+◌, ◌≤◌, length, length-append, refl, take}
 use Rattle.std.proofs.Common.{List, ℕ, ◌++◌, ◌∷◌, ◌∙◌, [], ap, map, subst, sym, take_all, Bor}
 use Rattle.std.specs.List.{All}
 use Rattle.line_rules.specs.Holders.{AreNumbersOf, IsWorker}
@@ -21,10 +21,13 @@ loop-i-preserved c =
     record {
       numbers = subst (λ ns. AreNumbersOf rows (map (λ n. n.now) (take (i + 1) names)) ns)
           (ap (λ n. c.loop-i.numbers.items ++ n ∷ []) (sym c.in_ok-short_number.ensures)
-          ∙ sym c.in_ok-push.ensures.items)
+          ∙ sym c.push_reserved.ensures.items)
           (numbers_more rows names i c.in-Some.number _ c.loop-i.numbers.items c.loop-i-test.true
           c.loop-i.invariant.numbers c.in-Some.ensures.1);
       held = workers_more rows names i _ c.loop-i-test.true c.loop-i.invariant.held c.in-Some.ensures.0;
+      room = subst (λ n. length names ≤ n) (sym c.push_reserved.ensures.capacity) c.loop-i.invariant.room;
+      count = ap length c.push_reserved.ensures.items ∙ length-append c.loop-i.numbers.items _
+          ∙ ap (λ n. n + 1) c.loop-i.invariant.count;
     }
 
 pub returns-clause-held : goal.returns-clause-held

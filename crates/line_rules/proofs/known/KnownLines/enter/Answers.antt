@@ -22,8 +22,8 @@ invariant_of-self-in-Ok c =
           (sym c.section_after-self-inside.ensures)
           (subst (IsSoundBefore version (section_after said.keyword)) (sym rows)
           (sound_entered _ said c.self.invariant.0 fit))),
-      subst (λ (rows : List Statement). AreHolders rows c.extend_from_slice.new.self.items) (sym rows)
-          (subst (AreHolders (c.self.inside.rows ++ entered_of said)) (sym c.in_ok-extend_from_slice.ensures.items)
+      subst (λ (rows : List Statement). AreHolders rows c.add_numbers.new.list.items) (sym rows)
+          (subst (AreHolders (c.self.inside.rows ++ entered_of said)) (sym c.in_ok-add_numbers.ensures.ok)
           (holders_of_entered c.self.inside.rows said c.self.inside.holders.items c.args.holders.now
           c.self.invariant.1 (subst (λ (k : Known). AreHoldersOf k.rows said c.args.holders.now) (sym c.self.view_is)
           c.requires.holders))),

@@ -10,10 +10,10 @@ use denote.Enum.Bare.{same_true}
 pub returns-then-eq : goal.returns-then-eq
 returns-then-eq c =
     let key : Key = (c.args.keyword, c.args.word.now, []) in
-    let of = c.in_ok-of.of.now in
+    let of = c.in_ok-of.of in
     let keyword : of.0 ≡ c.args.keyword = same_true the_type tt of.0 c.args.keyword
     (sym c.eq.ensures ∙ c.if-eq.true) in
     let first : first_by c.self.inside.firsts.entries c.args.word.now ≡ Some (c.args.keyword, of.1) =
-    sym c.in_ok-of.ensures.value ∙ (λ i. Some (keyword i, of.1)) in
+    sym c.in_ok-of.ensures ∙ (λ i. Some (keyword i, of.1)) in
     subst (λ (rows : List Statement). HasNumber rows key of.1) c.self.view_is
     ((c.self.invariant.1.keys key of.1).1 (inl (inl (refl, first))))

@@ -10,6 +10,6 @@ pub returns : goal.returns
 returns c =
     let word = c.args.word.now in
     let P : List Statement → Type 0 =
-    λ rows. IsTrue c.contains_key.result ↔ ((keyword : Keyword) × HasRow rows keyword word) in
+    λ rows. IsTrue c.has.result ↔ ((keyword : Keyword) × HasRow rows keyword word) in
     subst P c.self.view_is
-    (found_word _ _ _ _ c.self.invariant.1 c.contains_key.result word c.contains_key.ensures)
+    (found_word _ _ _ _ c.self.invariant.1 c.has.result word c.has.ensures)
