@@ -1,7 +1,6 @@
 -- Where the line, the live holders and the bars of a split are the same, so are its ends.
-use Rattle.std.proofs.Common.{◌≡◌, ℕ, suc, ◌*◌, ◌<◌, ◌≤◌, ◌↔◌, true, false, cond, List, [], ◌∷◌}
+use Rattle.std.proofs.Common.{[], ◌≡◌, ℕ, suc, ◌*◌, ◌<◌, ◌≤◌, ◌↔◌, true, cond, List, ◌∷◌}
 use Rattle.std.proofs.Common.{length, Contains, refl, sym, ap, ◌∙◌, subst, inl, inr, arith, get_or}
-use Rattle.std.proofs.lemmas.Bool.{false≢true}
 use Rattle.std.proofs.lemmas.List.{ext_get_or}
 use Rattle.node_ids.specs.Sets.{HasPair}
 use Rattle.rack_tree.specs.Tree.{reach, Tree}
@@ -77,11 +76,3 @@ module _ (one other : Wave) (s : ℕ) (tree : other.tree ≡ one.tree)
     carried other one s (sym tree) (sym pending) (sym holders) bar_up bar_down e,
     carried one other s tree pending holders bar_down bar_up e,
   )
-
--- a split that is pending in neither has no ends
-pub ends_of_idle : (one other : Wave) (s : ℕ) → (split_at one s).pending ≡ false
-    → (split_at other s).pending ≡ false → (e : End) → IsEnd other s e ↔ IsEnd one s e
-ends_of_idle one other s idle idle_too e = (
-  λ is. absurd (false≢true (sym idle_too ∙ is.pending)),
-  λ is. absurd (false≢true (sym idle ∙ is.pending)),
-)

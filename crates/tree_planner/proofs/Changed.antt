@@ -1,5 +1,5 @@
 -- A table of which the numbers of the nodes in a row change, one node after another.
-use Rattle.std.proofs.Common.{◌≡◌, ℕ, ◌+◌, ◌<◌, ◌≤◌, ap, ◌∙◌, subst, refl, sym, inl, inr, arith}
+use Rattle.std.proofs.Common.{◌≡◌, ℕ, ◌+◌, ◌<◌, ap, ◌∙◌, subst, refl, sym, inl, inr, arith}
 use Rattle.std.specs.Prelude.{◌≢◌}
 use Rattle.std.proofs.lemmas.Bool.{cases_lt}
 use Rattle.tree_flow.specs.declared.node_table.NodeTable.{NodeTable}

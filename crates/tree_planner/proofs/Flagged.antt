@@ -176,3 +176,9 @@ pub ground_started : (wave : Wave) (s w : ℕ) → HasSameGround wave (started w
 ground_started wave s w =
     same_ground_then wave (slot_less wave w) (started wave s w)
     (ground_with_free wave w ((worker_at wave w).free - 1)) (ground_with_pending (slot_less wave w) s false)
+
+-- the lines of all other workers are as before
+pub lines_started : (wave : Wave) (s w x : ℕ) → x ≢ w → worker_at (started wave s w) x ≡ worker_at wave x
+lines_started wave s w x other =
+    get_or-set_other wave.workers w x (record { live = (worker_at wave w).live; free = (worker_at wave w).free - 1 })
+    (record { live = false; free = 0 }) other

@@ -1,17 +1,15 @@
 -- The lowest floor of the blocks, and a search whose floors are new.
-use Rattle.std.proofs.Common.{◌≡◌, ℕ, ◌+◌, ◌-◌, ◌/◌, ◌^◌, ◌<◌, ◌≤◌, ◌⊎◌, List, length, get_or, min}
+use Rattle.std.proofs.Common.{◌≡◌, ℕ, ◌-◌, ◌/◌, ◌^◌, ◌<◌, ◌≤◌, ◌⊎◌, List, length, get_or}
 use Rattle.std.proofs.Common.{◌∙◌, get_or-set_same, get_or-set_other, length-set, refl, sym, ap, inl, inr}
 use Rattle.std.proofs.Common.{subst, arith}
 use Rattle.std.proofs.lemmas.Bool.{cases_lt}
-use Rattle.std.proofs.lemmas.List.Sums.{sum_by-set}
 use Rattle.std.specs.List.{sum_by}
 use Rattle.std.specs.Prelude.{◌≢◌, slice_set}
-use borrow.Author.Count.{below_more}
 use Rattle.tree_flow.specs.declared.nodes.TreeNode.{TreeNode}
 use Rattle.tree_flow.specs.declared.nodes.TreeNode.TheVariants.{Cluster}
 use Rattle.tree_planner.specs.declared.reached.LowBlock.{LowBlock}
 use Rattle.tree_planner.specs.declared.reached.Reached.{Reached}
-use Rattle.tree_planner.specs.declared.search.Candidate.{Candidate}
+use Rattle.tree_planner.specs.declared.nearest.Candidate.{Candidate}
 use Rattle.tree_planner.specs.declared.search.Ground.{Ground}
 use Rattle.tree_planner.specs.declared.search.Search.{Search}
 use Rattle.tree_planner.specs.Searching.{cover_at, far_at, floor_at, order_at, place_at, reached_at, step_at}
@@ -31,45 +29,9 @@ pub record IsLowAmong (floors : List ℕ) (n : ℕ) (low : LowBlock) (below : �
   pub least : (k : ℕ) → k < n → low.floor ≤ get_or floors k 0
   pub next : (k : ℕ) → k < n → k ≢ low.block → low.next ≤ get_or floors k 0
 
-pub next_among : (floors : List ℕ) (n : ℕ) (low new : LowBlock) (below floor : ℕ) → floor ≡ get_or floors n 0
-    → (floor < low.floor → new ≡ record { block = n; floor = floor; next = low.floor })
-    → (low.floor ≤ floor → new ≡ record low { next = min floor low.next })
-    → IsLowAmong floors n low below → IsLowAmong floors (n + 1) new below
-next_among floors n low new below floor is lower other among = elim (cases_lt floor low.floor) [
-  | inl less ↦
-      (let order = among.order in
-      let most = among.most in
-      subst (λ new. IsLowAmong floors (n + 1) new below) (sym (lower less)) (record {
-        order = omega arith;
-        most = omega arith;
-        block = λ l. omega arith;
-        floor = λ l. is;
-        least = below_more (λ (k : ℕ). floor ≤ get_or floors k 0) n
-            (λ k l. (let least = among.least k l in omega arith)) (omega arith);
-        next = λ k l n. among.least k (omega arith);
-      }))
-  | inr past ↦
-      (let order = among.order in
-      let most = among.most in
-      subst (λ new. IsLowAmong floors (n + 1) new below) (sym (other past)) (record {
-        order = omega arith;
-        most = omega arith;
-        block = λ l. (let within = among.block l in omega arith);
-        floor = among.floor;
-        least = below_more (λ (k : ℕ). low.floor ≤ get_or floors k 0) n among.least (omega arith);
-        next = below_more (λ (k : ℕ). k ≢ low.block → min floor low.next ≤ get_or floors k 0) n
-            (λ k l n. (let next = among.next k l n in omega arith)) (λ n. omega arith);
-      }))
-]
-
 -- how far the floors lie below a distance
 abbrev pub below : ℕ → List ℕ → ℕ
 below b floors = sum_by (λ m. b - m) floors
-
--- they lie less far below it, where one of them rises no higher than it
-pub below-set : (b y : ℕ) (floors : List ℕ) (k : ℕ) → k < length floors → get_or floors k 0 < y → y ≤ b
-    → below b (slice_set floors k y) < below b floors
-below-set b y floors k l rises most = (let set = sum_by-set (λ m. b - m) floors k y 0 l in omega arith)
 
 module _ (old new : Search) (rest : AreFloorsNew old new) where
   abbrev raised : Search

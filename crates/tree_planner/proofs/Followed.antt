@@ -1,12 +1,9 @@
 -- A hole goes back along a way that costs nothing.
-use Rattle.std.specs.Prelude.{MatchOption}
-use Rattle.std.proofs.Common.{◌≡◌, ℕ, ◌+◌, ◌-◌, ◌<◌, ◌≤◌, Option, Some, None, sym, ap, ◌∙◌, subst, inl, inr, arith}
+use Rattle.std.proofs.Common.{◌≡◌, ℕ, ◌+◌, ◌-◌, ◌≤◌, Some, sym, ap, ◌∙◌, subst, arith}
 use Rattle.std.specs.Prelude.{◌≢◌}
-use Rattle.std.proofs.lemmas.Bool.{cases_eq}
 use Rattle.wave_problem.specs.Wave.{Wave}
 use Rattle.tree_flow.specs.declared.nodes.End.{End}
-use Rattle.tree_flow.specs.declared.nodes.Place.{Place}
-use Rattle.tree_flow.specs.declared.nodes.Place.TheVariants.{Stands, Waits, Unshipped}
+use Rattle.tree_flow.specs.declared.nodes.Place.TheVariants.{Stands, Waits}
 use Rattle.tree_flow.specs.declared.nodes.TreeNode.{TreeNode}
 use Rattle.tree_planner.specs.declared.search.Goal.{Goal}
 use Rattle.tree_planner.specs.declared.search.Goal.TheVariants.{Wait, Slot, Off}
@@ -17,9 +14,9 @@ use Rattle.tree_flow.specs.Moves.{IsFlowSet, IsPlaced}
 use Rattle.tree_flow.specs.Nodes.{parent, IsNode}
 use Rattle.tree_flow.specs.State.{State, Terms, place_of, reach_cost, IsKept, IsKeptBut}
 use Rattle.tree_planner.specs.Searching.{order_at, step_at}
-use Rattle.tree_planner.specs.Way.{left_of, AreOthersSame, IsFollowing, IsOnWay, IsReady, IsTight, IsTightGoal, SlotIsTight}
+use Rattle.tree_planner.specs.Way.{IsFollowing, IsOnWay, IsReady, IsTight, IsTightGoal, SlotIsTight}
 use Rattle.tree_flow.proofs.Moved.{pushes_down, pushes_up, hands_over, sends_off, ships, lets_wait}
-use Rattle.tree_flow.proofs.Moved.{here_now, other_now}
+use Rattle.tree_flow.proofs.Moved.{other_now}
 
 module _ (wave : Wave) (now new : State) (search : Search) (x : TreeNode) (f : IsFollowing wave now search x) where
   pub tight_at : (step : Step) → step_at search x ≡ step → IsTight wave f.first search x step
@@ -196,37 +193,3 @@ module _ (wave : Wave) (old new : State) (search : Search) (r : IsReady wave old
             let s = ap (λ (e : End). order_at search e.node) same in
             omega arith)) ∙ stands_there;
       }
-
--- a step back brings the end nearer
-pub hole_less : (search : Search) (node : TreeNode) (o : Option TreeNode) (A : Type 0) (B : TreeNode → Type 0)
-    → MatchOption o A (λ from. B from × (order_at search from < order_at search node))
-    → left_of search o < left_of search (Some node)
-hole_less search node None A B h = omega arith
-hole_less search node (Some v) A B h = (let less = h.1 in omega arith)
-
-pub hole_kept : (search : Search) (node : TreeNode) (o : Option TreeNode) (A : Type 0) (B : TreeNode → Type 0)
-    → MatchOption o A (λ from. B from × (order_at search from < order_at search node)) → MatchOption o A B
-hole_kept search node None A B h = h
-hole_kept search node (Some v) A B h = h.0
-
-pub others_trans : (a b c : State) (s : ℕ) → AreOthersSame a b s → AreOthersSame b c s → AreOthersSame a c s
-others_trans a b c s p q = λ t n. (λ is. (p t n).0 ((q t n).0 is), λ is. (q t n).1 ((p t n).1 is))
-
--- a split that stands has gone to another place, or the one that is shipped has
-pub others_same : (wave : Wave) (old new : State) (t s : ℕ) (place : Place) → IsPlaced old new t place
-    → (t ≢ s → (place_of old t ≡ Unshipped → ⊥) × (place ≡ Unshipped → ⊥)) → AreOthersSame old new s
-others_same wave old new t s place set both u n = elim (cases_eq u t) [
-  | inl e ↦
-      (let off = both (λ is. n (e ∙ is)) in
-      let now = ap (λ u. place_of new u) e ∙ here_now wave old new t place set in
-      let was = ap (λ u. place_of old u) e in
-      (λ is. absurd (off.1 (sym now ∙ is)), λ is. absurd (off.0 (sym was ∙ is))))
-  | inr m ↦
-      (let same = other_now wave old new t place set u m in
-      (λ is. sym same ∙ is, λ is. same ∙ is))
-]
-
-pub others_kept : (old new : State) (s : ℕ) → new.places ≡ old.places → AreOthersSame old new s
-others_kept old new s same t n =
-    let at = ap (λ places. place_of (record old { places = places }) t) same in
-    (λ is. sym at ∙ is, λ is. at ∙ is)

@@ -63,16 +63,6 @@ module _ (first now next : Wave) (w free : ℕ) (known : w < length now.workers)
   live_with_free = ap (λ (x : Wave). (worker_at x w).live) is
       ∙ ap (λ (l : WorkerLine). l.live) (set_here now w free known)
 
--- one change of a worker's line after another
-pub line_then : (first now next : Wave) (w : ℕ) (one two : WorkerLine) → HasLine first now w one
-    → HasLine now next w two → HasLine first next w two
-line_then first now next w one two a b = record {
-  rest = b.rest ∙ ap (λ (x : Wave). with_workers x next.workers) a.rest;
-  size = b.size ∙ a.size;
-  here = b.here;
-  others = λ x n. b.others x n ∙ a.others x n;
-}
-
 -- the first lines are these, and all else is as at first
 pub record AreFit (first now : Wave) (lines : List WorkerLine) (k : ℕ) : Type 0 where
   pub rest : now ≡ with_workers first now.workers
@@ -81,19 +71,6 @@ pub record AreFit (first now : Wave) (lines : List WorkerLine) (k : ℕ) : Type 
 
 pub none_fit : (wave : Wave) (lines : List WorkerLine) → AreFit wave wave lines 0
 none_fit wave lines = record { rest = refl; size = refl; done = λ j l. absurd (omega arith) }
-
--- one line more
-pub one_fit : (first now next : Wave) (lines : List WorkerLine) (k : ℕ) (line : WorkerLine)
-    → AreFit first now lines k → HasLine now next k line → line ≡ worker_in lines k
-    → AreFit first next lines (k + 1)
-one_fit first now next lines k line fit has same = record {
-  rest = has.rest ∙ ap (λ (x : Wave). with_workers x next.workers) fit.rest;
-  size = has.size ∙ fit.size;
-  done = λ j l. elim (cases_eq j k) [
-    | inl e ↦ subst (λ (j : ℕ). worker_at next j ≡ worker_in lines j) (sym e) (has.here ∙ same)
-    | inr n ↦ has.others j n ∙ fit.done j (omega arith)
-  ];
-}
 
 -- waves that differ in workers' lines alone have the same ground
 pub ground_with_workers : (first now : Wave) → now ≡ with_workers first now.workers

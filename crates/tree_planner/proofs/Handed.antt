@@ -21,7 +21,7 @@ use Rattle.tree_planner.specs.declared.children.Children.{Children}
 use Rattle.tree_planner.specs.Hanging.{hanging, AreChildren}
 use Rattle.tree_flow.proofs.Children.{unit_goes_on}
 use Rattle.tree_planner.proofs.Looked.{at_each, room_known}
-use Rattle.tree_flow.proofs.Ends.{above_above, own_above, under_under}
+use Rattle.tree_flow.proofs.Ends.{above_above, under_under}
 use Rattle.tree_flow.proofs.Given.{under_parent}
 use Rattle.tree_flow.proofs.Moved.{counts, one, parent_not_under, parent_under, same_or_not, sum_less, under_own}
 
@@ -125,22 +125,6 @@ come_on tree state c w h some = record {
   ];
 }
 
-pub come_to_worker : (tree : Tree) (state : State) (w : ℕ) → HasComeDown tree state (Worker w) w
-come_to_worker tree state w = record {
-  under = own_above tree 0 w;
-  flows = λ u under_worker under other. absurd
-      (let at = which_above tree w u under_worker in off at.0 at.1
-      (subst (λ v. is_under tree v (Worker w) ≡ true) at.2 under) (λ e. other (at.2 ∙ e)));
-}
-  where
-    off : (i : ℕ) → i < 4 → is_under tree (node_above tree i w) (Worker w) ≡ true
-        → node_above tree i w ≢ Worker w → ⊥
-    off zero l under other = other refl
-    off (suc zero) l under other = false≢true under
-    off (suc (suc zero)) l under other = false≢true under
-    off (suc (suc (suc zero))) l under other = false≢true under
-    off (suc (suc (suc (suc i)))) l under other = absurd (omega arith)
-
 -- a state with the same units is balanced
 same_flow : (wave : Wave) (a : State) (flow : TreeNode → ℕ) → ((v : TreeNode) → flow v ≡ a.flow v)
     → IsBalancedBut wave a None → IsBalancedBut wave (record a { flow = flow }) None
@@ -221,25 +205,6 @@ unit_there wave children left v known all inner unit none =
       above = found.1;
     })) in
     omega arith
-
--- no unit comes to the cluster
-pub not_cluster : (wave : Wave) (left : NodeTable ℕ) (v c : TreeNode) → HasUnitAt wave left v → 0 < at_node left c
-    → c ≢ Cluster
-not_cluster wave left v c unit some e =
-    let u = unit.3 in
-    let top = u.balanced.top in
-    let flow = u.flow Cluster in
-    let a = ap (λ c. at_node left c) e in
-    omega arith
-
--- a number that was copied, and the others as they were
-pub copy_set : (flow old new : NodeTable ℕ) (node x : TreeNode) → at_node new node ≡ at_node flow node
-    → ((v : TreeNode) → v ≢ node → at_node new v ≡ at_node old v) → at_node old x ≡ at_node flow x
-    → at_node new x ≡ at_node flow x
-copy_set flow old new node x here others before = elim (same_or_not x node) [
-  | inl e ↦ ap (λ v. at_node new v) e ∙ here ∙ sym (ap (λ v. at_node flow v) e)
-  | inr n ↦ others x n ∙ before
-]
 
 -- no number rises where one falls
 pub set_falls : (old new : NodeTable ℕ) (c : TreeNode) → at_node new c ≡ at_node old c - 1

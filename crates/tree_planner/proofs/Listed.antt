@@ -1,7 +1,7 @@
 -- All nodes of a tree in a list.
-use Rattle.std.proofs.Common.{ℕ, ◌+◌, ◌<◌, List, [], ◌∷◌, ◌++◌, length, All, Contains, arith}
+use Rattle.std.proofs.Common.{[], ℕ, ◌+◌, ◌<◌, List, ◌∷◌, ◌++◌, length, All, Contains}
 use borrow.Author.Count.{below_more}
-use Rattle.std.proofs.lemmas.List.Elements.{All-nil, All-push, Contains-append_left, Contains-push}
+use Rattle.std.proofs.lemmas.List.Elements.{All-push, Contains-append_left, Contains-push}
 use Rattle.rack_tree.specs.Tree.{Tree}
 use Rattle.tree_flow.specs.declared.nodes.TreeNode.{TreeNode}
 use Rattle.tree_flow.specs.declared.nodes.TreeNode.TheVariants.{Worker, Rack, Centre, Cluster}
@@ -58,12 +58,3 @@ module _ (tree : Tree) (nodes : List TreeNode) where
       each (Rack r) l = is.has_racks r l
       each (Centre c) l = is.has_centres c l
       each Cluster l = is.cluster
-
-pub first_listed : (tree : Tree) → IsListed tree ([] ++ Cluster ∷ []) 0 0 0
-first_listed tree = record {
-  known = All-push (IsNode tree) [] Cluster (All-nil (IsNode tree)) tt;
-  cluster = Contains-push [] Cluster;
-  has_centres = λ k m. absurd (omega arith);
-  has_racks = λ k m. absurd (omega arith);
-  has_workers = λ k m. absurd (omega arith);
-}

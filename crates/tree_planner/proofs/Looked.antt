@@ -1,13 +1,11 @@
 -- A node from which all steps were taken.
-use Rattle.std.proofs.Common.{◌≡◌, ℕ, ◌+◌, ◌*◌, ◌/◌, ◌^◌, ◌<◌, ◌≤◌, ◌⊎◌, ◌∙◌, min, List, length, get_or}
+use Rattle.std.proofs.Common.{◌≡◌, ℕ, ◌+◌, ◌*◌, ◌/◌, ◌^◌, ◌<◌, ◌≤◌, ◌∙◌, min, List, length, get_or}
 use Rattle.std.proofs.Common.{Contains, sym, ap, subst, inl, inr, arith}
 use Rattle.std.specs.Prelude.{◌≢◌}
 use Rattle.std.proofs.lemmas.Bool.{cases_lt}
-use Rattle.std.proofs.lemmas.List.{get_or_default, get_or_past}
-use Rattle.rack_tree.specs.Tree.{Tree}
-use Rattle.tree_flow.specs.declared.node_table.NodeTable.{NodeTable}
+use Rattle.std.proofs.lemmas.List.{get_or_default}
 use Rattle.tree_flow.specs.declared.nodes.TreeNode.{TreeNode}
-use Rattle.tree_flow.specs.declared.nodes.TreeNode.TheVariants.{Worker, Rack, Centre, Cluster}
+use Rattle.tree_flow.specs.declared.nodes.TreeNode.TheVariants.{Worker}
 use Rattle.tree_planner.specs.declared.search.Ground.{Ground}
 use Rattle.tree_planner.specs.declared.search.Search.{Search}
 use Rattle.wave_problem.specs.Wave.{Wave}
@@ -23,7 +21,7 @@ use Rattle.tree_planner.specs.declared.search.Goal.TheVariants.{Slot}
 use Rattle.tree_planner.specs.Searching.{EndsIn, HasStarted, IsSearched}
 use Rattle.tree_planner.specs.Reaching.{floor_in}
 use Rattle.tree_planner.specs.Searching.{place_at, IsDown, IsGround, IsNearest, IsSearching, Settles}
-use Rattle.tree_flow.specs.Table.{at_or, IsOver}
+use Rattle.tree_flow.specs.Table.{IsOver}
 use Rattle.tree_planner.proofs.Improved.{improves_trans, some_same, down_kept, settle_kept, settle_at, settle_found}
 use Rattle.tree_planner.proofs.Improved.{settles_then}
 
@@ -31,23 +29,6 @@ use Rattle.tree_planner.proofs.Improved.{settles_then}
 pub at_each : {X : Type 0} (xs : List X) (d : X) (P : X → Type 0)
     → ((k : ℕ) → k < length xs → P (get_or xs k d)) → (x : X) → Contains xs x → P x
 at_each xs d P h x i = subst P (get_or_default xs i.0 d x i.1 ∙ i.2) (h i.0 i.1)
-
--- a table has the default at a node that the tree lacks
-pub known_or_not : (tree : Tree) (table : NodeTable ℕ) (d : ℕ) → IsOver tree table → (v : TreeNode)
-    → IsNode tree v ⊎ (at_or table d v ≡ d)
-known_or_not tree table d over (Worker w) = elim (cases_lt w (length tree.rack_of)) [
-  | inl l ↦ inl l
-  | inr past ↦ inr (get_or_past table.workers.items w d (let size = over.workers in omega arith))
-]
-known_or_not tree table d over (Rack r) = elim (cases_lt r (length tree.centre_of)) [
-  | inl l ↦ inl l
-  | inr past ↦ inr (get_or_past table.racks.items r d (let size = over.racks in omega arith))
-]
-known_or_not tree table d over (Centre c) = elim (cases_lt c tree.centres) [
-  | inl l ↦ inl l
-  | inr past ↦ inr (get_or_past table.centres.items c d (let size = over.centres in omega arith))
-]
-known_or_not tree table d over Cluster = inl tt
 
 -- where no floor of a block in use is lower than a distance up to the bound, no node that was not looked from
 -- is nearer

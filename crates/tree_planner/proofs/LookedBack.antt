@@ -9,7 +9,7 @@ use Rattle.tree_planner.specs.declared.back.SearchBack.{SearchBack}
 use Rattle.tree_flow.specs.Nodes.{parent}
 use Rattle.tree_flow.specs.State.{slots_of, sum_under}
 use Rattle.tree_planner.specs.SearchingBack.{order_at, far_at, far_of, state_at, wave_of, AreInto}
-use Rattle.tree_planner.specs.SearchingBack.{HasLookedFrom, Improves, IsHollow}
+use Rattle.tree_planner.specs.SearchingBack.{HasLookedFrom, Improves}
 use Rattle.tree_planner.specs.Reaching.{node_in}
 use Rattle.tree_planner.specs.SearchingBack.{IsAt, IsDown, IsFresh, IsNearest, IsSearching, Settles}
 use Rattle.tree_flow.specs.Table.{IsOver}
@@ -94,28 +94,3 @@ looked_all h c one two three four some i j k low up down over =
       waits = λ s x waits is_end is. (let into = over s x is_end in into.waits waits is);
       low = (let same = all.nearer.settled c some in let bound = all.nearer.bound in omega arith);
     }
-
--- from a node that is no nearer than the bound no step has to be taken
-pub looked_near : (h : Hollow) (search : SearchBack) (u : TreeNode) → IsHollow h
-    → search.bound ≤ far_at search u
-    → HasLookedFrom h search u
-looked_near h search u hollow near = record {
-  down = λ room. (let level = hollow.standing.kept.level.down u room in omega arith);
-  up = λ v is some.
-      (let level = hollow.standing.kept.level.up v some in
-      let same = ap (state_at h).depth is in
-      omega arith);
-  over = λ s e x stands is_end is.
-      (let least = hollow.standing.kept.cheapest.least s e x stands is_end in omega arith);
-  waits = λ s x waits is_end is. (let least = hollow.standing.kept.cheapest.waiting s x waits is_end in
-      omega arith);
-  low = omega arith;
-}
-
--- nor has one into it
-pub into_near : (h : Hollow) (search : SearchBack) (c : TreeNode) (t : ℕ) → IsHollow h
-    → search.bound ≤ far_at search c → AreInto h search c t
-into_near h search c t hollow near = λ x is_end. record {
-  over = λ e stands is. (let least = hollow.standing.kept.cheapest.least t e x stands is_end in omega arith);
-  waits = λ waits is. (let least = hollow.standing.kept.cheapest.waiting t x waits is_end in omega arith);
-}

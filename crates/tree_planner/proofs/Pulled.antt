@@ -1,14 +1,13 @@
 -- A hole that sinks to a worker to which a unit has come down.
 use Rattle.std.proofs.Common.{◌≡◌, ℕ, ◌<◌, true, Some, List, Option, length, sym, ap, ◌∙◌, arith}
-use Rattle.std.specs.Prelude.{◌≢◌, slice_index}
+use Rattle.std.specs.Prelude.{◌≢◌}
 use Rattle.std.proofs.lemmas.Bool.{false≢true}
-use borrow.Author.Tests.{eqb-true}
-use Rattle.rack_tree.specs.Tree.{Tree, centre_at}
+use Rattle.rack_tree.specs.Tree.{Tree}
 use Rattle.wave_problem.specs.Assignment.{start_of}
 use Rattle.wave_problem.specs.Wave.{IsUsable, Wave}
 use Rattle.tree_flow.specs.declared.nodes.TreeNode.{TreeNode}
-use Rattle.tree_flow.specs.declared.nodes.TreeNode.TheVariants.{Centre, Cluster, Rack, Worker}
-use Rattle.tree_flow.specs.Nodes.{is_under, node_above, parent}
+use Rattle.tree_flow.specs.declared.nodes.TreeNode.TheVariants.{Cluster, Worker}
+use Rattle.tree_flow.specs.Nodes.{is_under, parent}
 use Rattle.tree_flow.specs.Settled.{HasComeDown, IsHandedDown}
 use Rattle.tree_flow.specs.State.{slots_of, State, IsKept}
 use Rattle.tree_flow.proofs.Certified.{some_start}
@@ -48,17 +47,6 @@ come_below tree old new below w hangs under come same = record {
       let is = same u n in
       omega arith);
 }
-
-pub above_centre : (tree : Tree) (w c : ℕ) → is_under tree (Worker w) (Centre c) ≡ true
-    → parent tree (node_above tree 1 w) ≡ Centre c
-above_centre tree w c under = ap Centre (sym (eqb-true c (centre_at tree w) under))
-
-pub above_rack : (tree : Tree) (w r : ℕ) → is_under tree (Worker w) (Rack r) ≡ true
-    → parent tree (node_above tree 0 w) ≡ Rack r
-above_rack tree w r under = ap Rack (sym (eqb-true r (slice_index tree.rack_of w) under))
-
-pub worker_itself : (tree : Tree) (w x : ℕ) → is_under tree (Worker w) (Worker x) ≡ true → x ≡ w
-worker_itself tree w x under = eqb-true x w under
 
 -- on a worker with slots of which none is free some split starts
 pub start_there : (wave : Wave) (state : State) (starts : List (Option ℕ)) (w : ℕ) → w < length wave.workers

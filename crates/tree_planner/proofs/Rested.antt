@@ -10,7 +10,6 @@ use Rattle.tree_flow.proofs.Moved.{under_own}
 use Rattle.tree_flow.proofs.Under.{under_worker}
 use Rattle.tree_planner.specs.declared.search.Ground.{Ground}
 use Rattle.tree_planner.specs.Searching.{next_price, state_at, wave_of, IsGround, IsRest}
-use Rattle.tree_planner.specs.Way.{AreCheap}
 use Rattle.tree_planner.proofs.Below.{free_there}
 
 -- no slot is free under the node
@@ -49,12 +48,3 @@ module _ (g : Ground) (ground : IsGround g) (w : ℕ) (known : w < length (wave_
         let deep = price_deep in
         omega arith);
   }
-
--- where the rest is nothing, a slot is free under the node, and the next places there cost no more than it is deep
-pub open_cheap : (g : Ground) (v : TreeNode) → IsRest g v 0
-    → (0 < sum_under (wave_of g) v (state_at g).free) × AreCheap (wave_of g) (state_at g) v
-open_cheap g v rest =
-    let open_at = rest.found (omega arith) in (
-      open_at.some,
-      λ w known under free. (let near = open_at.near w known under free in omega arith),
-    )

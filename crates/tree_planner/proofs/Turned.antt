@@ -7,18 +7,15 @@ use Rattle.rack_tree.specs.Tree.{Tree}
 use Rattle.wave_problem.specs.Wave.{Wave}
 use Rattle.wave_problem.proofs.Bound.{pending_known}
 use Rattle.tree_flow.specs.declared.nodes.End.{End}
-use Rattle.tree_flow.specs.declared.nodes.Place.{Place}
 use Rattle.tree_flow.specs.declared.nodes.Place.TheVariants.{Unshipped}
-use Rattle.tree_flow.specs.Moves.{IsPlaced}
 use Rattle.tree_flow.specs.Nodes.{is_under, AreNodes, IsEnd, IsKnown, IsNode}
 use Rattle.tree_flow.specs.Slots.{IsAnother}
-use Rattle.tree_flow.specs.State.{State, place_of, slots_of}
+use Rattle.tree_flow.specs.State.{place_of, slots_of}
 use Rattle.tree_flow.specs.Table.{at_node, IsOver}
 use Rattle.tree_flow.specs.declared.nodes.TreeNode.TheVariants.{Worker}
 use Rattle.wave_problem.specs.Sums.{sum_below}
 use Rattle.tree_planner.specs.Listing.{AreLists}
 use Rattle.tree_flow.proofs.Given.{changes}
-use Rattle.tree_flow.proofs.Moved.{other_now}
 use Rattle.tree_planner.specs.declared.engine.Fixed.{Fixed}
 use Rattle.tree_planner.specs.declared.tables.Tables.{Tables}
 use Rattle.tree_planner.specs.Ends.{ends_at, Grouped, HasEnd}
@@ -27,16 +24,6 @@ use Rattle.tree_planner.specs.Events.{other_at, AreOtherEnds, ArePut, IsLike, Is
 use Rattle.tree_planner.specs.Hanging.{AreChildren}
 use Rattle.tree_planner.proofs.Fresh.{same_sum}
 use Rattle.tree_planner.specs.View.{state_of}
-use Rattle.tree_planner.specs.Way.{AreOthersSame}
-use Rattle.tree_planner.specs.WayBack.{AreAllSame}
-
--- a split was taken off, and the hole was filled
-pub replaced : (wave : Wave) (old mid new : State) (s : ℕ) (place : Place) → IsPlaced old mid s place
-    → AreAllSame mid new → AreOthersSame old new s
-replaced wave old mid new s place set all = λ t n.
-    (let same = other_now wave old mid s place set t n in
-    let both = all t in
-    (λ is. sym same ∙ both.0 is, λ is. both.1 (same ∙ is)))
 
 known_like : (wave next : Wave) → IsLike wave next → IsKnown wave → IsKnown next
 known_like wave next like known = record {

@@ -13,12 +13,6 @@ pub record HasMore (wave : Wave) (lines : List WorkerLine) : Type 0 where
   pub dead : (w : ℕ) → (worker_in lines w).live ≡ false → (worker_in lines w).free ≡ (worker_at wave w).free
   pub most : All (λ line. line.free ≤ MAX_SLOTS) lines
 
--- the second line has no fewer slots than the first, and the same life; a dead one has the same slots
-pub record IsMore (old new : WorkerLine) : Type 0 where
-  pub live : new.live ≡ old.live
-  pub more : old.free ≤ new.free
-  pub dead : new.live ≡ false → new.free ≡ old.free
-
 -- in the second wave the workers have at most the slots that they have in the first, and all else is the same
 pub record IsHeldBack (old new : Wave) : Type 0 where
   pub rest : new ≡ with_workers old new.workers

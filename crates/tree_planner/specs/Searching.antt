@@ -8,7 +8,7 @@ use Rattle.tree_flow.specs.declared.nodes.End.{End}
 use Rattle.tree_flow.specs.declared.nodes.Place.TheVariants.{Stands}
 use Rattle.tree_flow.specs.declared.nodes.TreeNode.{TreeNode}
 use Rattle.tree_flow.specs.declared.nodes.TreeNode.TheVariants.{Cluster, Worker}
-use Rattle.tree_planner.specs.declared.search.Candidate.{Candidate}
+use Rattle.tree_planner.specs.declared.nearest.Candidate.{Candidate}
 use Rattle.tree_planner.specs.declared.covers.Cover.{Cover}
 use Rattle.tree_planner.specs.declared.search.Goal.{Goal}
 use Rattle.tree_planner.specs.declared.search.Goal.TheVariants.{Wait, Slot, Off}

@@ -5,8 +5,8 @@ use Rattle.wave_problem.specs.Wave.{Wave, IsUsable}
 use Rattle.price_certificate.specs.Certificate.{claim, worker_price, Certifies, HasOneSize}
 use Rattle.price_certificate.specs.PriceList.{PriceList}
 
--- A plan makes just these starts, by rising split, and some prices certify it. Slots that nobody can take cost
--- nothing.
+-- A plan makes just these starts, by rising split, and some prices certify it. Slots that nobody can take
+-- cost nothing.
 pub record AreBestStarts (wave : Wave) (pairs : List (ℕ × ℕ)) : Type 0 where
   pub plan : List (Option ℕ)
   pub prices : PriceList

@@ -54,8 +54,8 @@ pub enum Rest {
     Join(u32, End),
 }
 
-/// What a search back stands on: a problem, what is read of it, the tables of a state with a hole, and a split
-/// that may fill the hole for nothing, if one is known.
+/// What a search back stands on: a problem, what is read of it, the tables of a state with a hole, and a
+/// split that may fill the hole for nothing, if one is known.
 #[derive(Drop)]
 pub struct Hollow<'a> {
     pub problem: &'a Problem,
@@ -65,9 +65,9 @@ pub struct Hollow<'a> {
     pub first: Option<u32>,
 }
 
-/// From which node the hole starts; how far each node is, how the hole comes to it, as which one it was looked
-/// from; the reached nodes; and the nearest end of a way, and how far it is. The tables serve one search after
-/// another: between two searches no node is reached.
+/// From which node the hole starts; how far each node is, how the hole comes to it, as which one it was
+/// looked from; the reached nodes; and the nearest end of a way, and how far it is. The tables serve one
+/// search after another: between two searches no node is reached.
 pub struct SearchBack {
     pub hole: TreeNode,
     pub far: NodeTable<u64>,

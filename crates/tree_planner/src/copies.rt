@@ -17,8 +17,8 @@ pub struct Link {
     pub next: u32,
 }
 
-/// For each worker a list of the splits that have a copy on it: the list's head, and the splits of all lists. The
-/// lists are those of an earlier problem, so they only say where to look first.
+/// For each worker a list of the splits that have a copy on it: the list's head, and the splits of all lists.
+/// The lists were made from an earlier problem, so they only say where to look first.
 #[derive(Drop)]
 pub struct Copies {
     heads: Vec<u32>,
@@ -58,8 +58,8 @@ impl Copies {
         Ok(())
     }
 
-    /// A split that waits to start and has a copy on the worker, if one is soon found. The splits before it, which
-    /// do not wait, leave the list.
+    /// A split that waits to start and has a copy on the worker, if one is soon found. The splits before it,
+    /// which do not wait, leave the list.
     pub fn first_waiting(
         &mut self,
         problem: &Problem,

@@ -89,7 +89,8 @@ fn free_child(
     }
 }
 
-// Moves a hole up from one node to another, over nodes that lie as deep as that: a unit more goes down to each.
+// Moves a hole up from one node to another, over nodes that lie as deep as that: a unit more goes down to
+// each.
 fn raise_hole(problem: &Problem, tables: &mut Tables, from: TreeNode, node: TreeNode)
     requires tables { AreTables problem.now tables.old }
     requires hole { IsKeptBut problem.now (state_of tables.old) (Some from) }

@@ -363,8 +363,8 @@ pub fn plan(alloc: Global, problem: &Problem) -> Result<(Plan, Prices), AllocErr
 
 /// The same where places have prices: a plan that starts as many splits as any admissible assignment, at the
 /// least charge among those, which is the byte-distance with the prices of the places that are taken. Each
-/// split is shipped by a search over the nodes of the tree, as the first slots of a worker are no longer as good
-/// as others: some thousand splits take seconds.
+/// split is shipped by a search over the nodes of the tree, as the first slots of a worker are no longer as
+/// good as others: some thousand splits take seconds.
 pub fn plan_places(
     alloc: Global,
     problem: &Problem,

@@ -1,5 +1,5 @@
 //! An engine that is kept up over waves of the same tree, bytes, holders and bars.
-ghost use Rattle.std.specs.Prelude.{◌≡◌, ◌≢◌, ◌<◌, ◌≤◌, ℕ, true, IfOk, IsTrue, OnOk, length};
+ghost use Rattle.std.specs.Prelude.{◌≡◌, ◌≢◌, ◌<◌, ◌≤◌, ℕ, true, IfOk, IsTrue, OnOk, Some, length};
 ghost use Rattle.wave_problem.specs.declared.TheConstants.{MAX_SLOTS};
 ghost use Rattle.wave_problem.specs.Wave.{split_at, worker_at};
 ghost use Rattle.tree_planner.specs.Going.{HasLine, HasSameGround};
@@ -10,26 +10,32 @@ use std::alloc::{AllocError, Global};
 use wave_problem::WorkerLine;
 
 impl Engine {
-    /// A pending split is not pending any more, or the other way round. Where it stands, it starts then, which
-    /// takes a slot away, too.
-    pub fn flag(&mut self, alloc: Global, split: SplitNo, pending: bool) -> Result<(), AllocError>
+    /// A pending split is not pending any more, or the other way round. Where it stands, it starts then,
+    /// which takes a slot away, too. It answers on which worker: the line of each other worker is as before.
+    pub fn flag(
+        &mut self,
+        alloc: Global,
+        split: SplitNo,
+        pending: bool,
+    ) -> Result<Option<WorkerNo>, AllocError>
         requires split { split < length self.old.wave.splits }
         requires other { (split_at self.old.wave split).pending ≢ pending }
         ensures ground { OnOk result (HasSameGround self.old.wave self.new.wave) }
         ensures here { OnOk result ((split_at self.new.wave split).pending ≡ pending) }
         ensures others { OnOk result ((s : ℕ) → s ≢ split
             → split_at self.new.wave s ≡ split_at self.old.wave s) }
+        ensures lines { IfOk result (λ started. (w : ℕ) → started ≢ Some w
+            → worker_at self.new.wave w ≡ worker_at self.old.wave w) }
     {
         if !pending {
-            self.set_aside(alloc, split);
-            return Ok(());
+            return Ok(self.set_aside(alloc, split));
         }
         self.pend(alloc, split)?;
-        Ok(())
+        Ok(None)
     }
 
-    /// Loses and frees slots until the worker has as many as its line says, and tells whether it has. It cannot
-    /// where the worker has died or has joined since.
+    /// Loses and frees slots until the worker has as many as its line says, and tells whether it has. It
+    /// cannot where the worker has died or has joined since.
     pub fn fit_worker(
         &mut self,
         alloc: Global,

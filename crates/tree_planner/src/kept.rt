@@ -1,6 +1,6 @@
 //! A plan that is kept while splits are shipped one after another.
 ghost use Rattle.std.specs.Prelude.{◌≡◌, ◌≢◌, ℕ, ◌<◌, ◌≤◌, false, true, All, IfOk, IfSome, OnOk, OnErr};
-ghost use Rattle.std.specs.Prelude.{None, length};
+ghost use Rattle.std.specs.Prelude.{None, Some, length};
 ghost use Rattle.wave_problem.specs.declared.TheConstants.{MAX_SLOTS};
 ghost use Rattle.wave_problem.specs.Wave.{split_at, worker_at, IsAdmissible, IsUsable};
 ghost use Rattle.price_certificate.specs.Certificate.{claim, worker_price, Certifies, HasOneSize};
@@ -214,15 +214,20 @@ impl Engine {
         }
     }
 
-    /// A split is not pending any more. Where it stands, it starts, and a slot is taken away with it.
-    pub fn set_aside(&mut self, alloc: Global, split: SplitNo)
+    /// A split is not pending any more. Where it stands, it starts, and a slot is taken away with it. It
+    /// answers on which worker.
+    pub fn set_aside(&mut self, alloc: Global, split: SplitNo) -> Option<WorkerNo>
         requires { split < length self.old.wave.splits }
         ensures ground { HasSameGround self.old.wave self.new.wave }
         ensures split { self.new.wave.splits ≡ (with_pending self.old.wave split false).splits }
+        ensures lines { (w : ℕ) → result ≢ Some w → worker_at self.new.wave w ≡ worker_at self.old.wave w }
     {
         match self.start(alloc, split) {
-            Some(_) => (),
-            None => self.pass_over(alloc, split),
+            Some(worker) => Some(worker),
+            None => {
+                self.pass_over(alloc, split);
+                None
+            }
         }
     }
 
@@ -340,8 +345,8 @@ impl Engine {
         read_off(alloc, &self.problem, &self.fixed, &self.tables)
     }
 
-    /// The splits that start when every split is shipped, each with its worker, by rising split. The time grows
-    /// with the splits that stand, and not with all splits. No prices are made.
+    /// The splits that start when every split is shipped, each with its worker, by rising split. The time
+    /// grows with the splits that stand, and not with all splits. No prices are made.
     pub fn starts(&mut self, alloc: Global) -> Result<Vec<(SplitNo, WorkerNo)>, AllocError>
         requires { (s : ℕ) → s < length self.old.wave.splits → place_of (state_in self.old) s ≢ Unshipped }
         ensures best { IfOk result (λ pairs. AreBestStarts self.old.wave pairs.items) }

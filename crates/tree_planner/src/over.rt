@@ -309,8 +309,8 @@ fn over_all(
     }
 }
 
-// To the nodes that hang from a node and that the groups of another split leave out; where that split has more
-// barred workers than nodes hang there, to all.
+// To the nodes that hang from a node and that the groups of another split leave out; where that split has
+// more barred workers than nodes hang there, to all.
 fn over_rest(
     ground: &Ground<'_>,
     search: &mut Search,
@@ -348,8 +348,8 @@ fn over_rest(
     }
 }
 
-// To one node, if it hangs from the top and is not left out. Whether it is nearer is asked first, as bars may be
-// many.
+// To one node, if it hangs from the top and is not left out. Whether it is nearer is asked first, as bars may
+// be many.
 fn over_node(
     ground: &Ground<'_>,
     search: &mut Search,

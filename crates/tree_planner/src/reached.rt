@@ -6,6 +6,7 @@ ghost use Rattle.tree_flow.specs.declared.nodes.TreeNode.TheVariants.{Cluster};
 ghost use Rattle.tree_flow.specs.Table.{HasNode, IsOver};
 ghost use Rattle.tree_planner.specs.Reaching.{floor_in, HasRoom, IsLowest, IsNoted};
 
+use crate::hints::Hints;
 use rack_tree::RackTree;
 use std::alloc::{AllocError, Global};
 use tree_flow::{NodeTable, TreeNode};
@@ -13,9 +14,9 @@ use tree_flow::{NodeTable, TreeNode};
 /// A distance that is farther than any way goes.
 pub const FAR: u64 = 1_152_921_504_606_846_976;
 
-/// How many places of the row make a block. To find the nearest node, a search reads the floor of each block and
-/// then the nodes of one block or a few. A tree of 32,768 workers has about a thousand blocks of 32. Their floors
-/// lie side by side, so reading a thousand of them costs about as much as reading 32 nodes.
+/// How many places of the row make a block. To find the nearest node, a search reads the floor of each block
+/// and then the nodes of one block or a few. A tree of 32,768 workers has about a thousand blocks of 32.
+/// Their floors lie side by side, so reading a thousand of them costs about as much as reading 32 nodes.
 pub const BLOCK: usize = 32;
 
 /// A block with the lowest floor, that floor, and a distance that no other block's floor is below.
@@ -26,14 +27,15 @@ pub struct LowBlock {
     pub next: u64,
 }
 
-/// Nodes in a row, of which so many are the first; the place of each node in the row; and a floor for each
-/// block of places: no node there that the search has not looked from is nearer.
+/// Nodes in a row, of which so many are the first; the place of each node in the row; a floor for each block
+/// of places: no node there that the search has not looked from is nearer; and where to look first.
 #[derive(Drop)]
 pub struct Reached {
     pub nodes: Vec<TreeNode>,
     pub count: usize,
     pub places: NodeTable<usize>,
     pub floors: Vec<u64>,
+    pub hints: Hints,
 }
 
 impl Reached {
@@ -50,6 +52,7 @@ impl Reached {
             count: 0,
             places,
             floors,
+            hints: Hints::new(alloc, nodes)?,
         })
     }
 
@@ -70,7 +73,9 @@ impl Reached {
         if far >= FAR {
             self.add(node, distance);
         } else {
-            let block = self.places.get(node) / BLOCK;
+            let place = self.places.get(node);
+            let block = place / BLOCK;
+            self.hints.put(place, distance);
             self.floors[block] = distance.min(self.floors[block]);
         }
     }
@@ -86,8 +91,18 @@ impl Reached {
             self.floors[block] = distance;
         }
         self.nodes[place] = node;
+        self.hints.put(place, distance);
         self.places.set(node, place);
         self.count += 1;
+    }
+
+    /// Notes that the search has looked from a node.
+    pub fn close(&mut self, node: TreeNode)
+        requires { HasNode self.old.places node }
+        ensures { self.new ≡ self.old }
+    {
+        let place = self.places.get(node);
+        self.hints.put(place, FAR);
     }
 
     /// Gives a block another floor.

@@ -20,8 +20,9 @@ use node_ids::WorkerNo;
 use tree_flow::{End, NodeTable, Place, TreeNode};
 use wave_problem::Problem;
 
-/// Fills a hole as cheaply as can be: a split that waits takes the slot, or a slot of a worker becomes free. The
-/// search is blank before and after. It looks first at the split that is named, if one is. No memory is needed.
+/// Fills a hole as cheaply as can be: a split that waits takes the slot, or a slot of a worker becomes free.
+/// The search is blank before and after. It looks first at the split that is named, if one is. No memory is
+/// needed.
 pub fn fill(
     problem: &Problem,
     fixed: &Fixed,

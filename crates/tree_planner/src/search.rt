@@ -1,6 +1,6 @@
 //! A search for the cheapest way to give one split a slot.
 ghost use Rattle.std.specs.Prelude.{◌≡◌, ◌≢◌, ◌+◌, ◌*◌, ◌/◌, ◌<◌, ◌≤◌, ◌^◌, ◌↔◌, min, ℕ, length, IfOk};
-ghost use Rattle.std.specs.Prelude.{IsTrue, All, Contains, MatchOption};
+ghost use Rattle.std.specs.Prelude.{IsTrue, All, Contains};
 ghost use Rattle.wave_problem.specs.declared.TheConstants.{MAX_BYTES};
 ghost use Rattle.wave_problem.specs.Wave.{split_at};
 ghost use Rattle.tree_flow.specs.declared.nodes.End.{End};
@@ -13,25 +13,26 @@ ghost use Rattle.tree_planner.specs.declared.split_ends.Group.TheVariants.{Below
 ghost use Rattle.tree_planner.specs.Hanging.{HangsFrom};
 ghost use Rattle.tree_planner.specs.declared.search.Ground.{Ground};
 ghost use Rattle.tree_flow.specs.Nodes.{parent, IsEnd, IsNode};
-ghost use Rattle.tree_flow.specs.State.{place_of, reach_cost, slots_of, sum_under};
+ghost use Rattle.tree_flow.specs.State.{reach_cost, slots_of, sum_under};
 ghost use Rattle.tree_planner.specs.Searching.{order_at, far_at, state_at, wave_of, EndsIn, HasLookedFrom};
 ghost use Rattle.tree_planner.specs.Searching.{HasStarted, Improves, IsAt, IsGround, IsSearched, IsSearching};
 ghost use Rattle.tree_planner.specs.Reaching.{HasRoom};
-ghost use Rattle.tree_planner.specs.Searching.{place_at, reached_at, AreFloorsNew, HasReached, HasTables};
-ghost use Rattle.tree_planner.specs.Searching.{IsBlank, IsCandidate};
-ghost use Rattle.tree_planner.specs.Searching.{AreOf, IsCovered, IsLeaving, IsOut, IsOutBy};
+ghost use Rattle.tree_planner.specs.Searching.{HasReached, HasTables};
+ghost use Rattle.tree_planner.specs.Searching.{IsBlank};
+ghost use Rattle.tree_planner.specs.Searching.{AreOf, IsCovered, IsOutBy};
 ghost use Rattle.tree_planner.specs.Searching.{next_price, worth_at, IsRest};
 ghost use Rattle.price_certificate.specs.declared.TheConstants.{MAX_PLACE_PRICE};
 ghost use Rattle.tree_planner.specs.Searching.{LeadsTo, IsNearest, IsStartedAt, Settles, IsDown};
-ghost use Rattle.tree_planner.specs.Searching.{GoesAllOver, IsOverTo};
+ghost use Rattle.tree_planner.specs.Searching.{GoesAllOver};
 ghost use Rattle.tree_flow.specs.Table.{at_node, HasNode, IsSized};
 ghost use Rattle.tree_planner.specs.Lows.{low_at, no_low, AreLow, IsLow};
 
 use crate::children::Children;
 use crate::covers::{Cover, Covers};
 use crate::lows::{Low, Lows};
+use crate::nearest::nearest;
 use crate::over::hand_over;
-use crate::reached::{BLOCK, FAR, Reached};
+use crate::reached::{FAR, Reached};
 use crate::split_ends::{AllEnds, Ends, Group, is_left};
 use crate::tables::{Tables, slots_of};
 use crate::tree_nodes::{is_same, parent};
@@ -65,14 +66,6 @@ pub enum Goal {
     Off(u32),
 }
 
-/// The place of the nearest node so far among the reached nodes, and how far it is; or how many these
-/// are, and the bound.
-#[derive(Clone, Copy)]
-pub struct Candidate {
-    pub place: usize,
-    pub far: u64,
-}
-
 /// What a search stands on: a problem with the tree's nodes, the splits' ends, the slots under each node
 /// and the worth of a start, and the tables of the state.
 #[derive(Drop)]
@@ -89,8 +82,8 @@ pub struct Ground<'a> {
 /// Which split is shipped, what its cheapest end costs at least, and how far a way may go; how far each node
 /// is, how it was come to, as which one it was looked from; the nodes that were come to; how near the nodes
 /// below each node are; what each split would pay at least at another node; and the nearest end of a way, and
-/// how far it is. Its tables serve one search after another: between two of them no node has been come to, and
-/// the lows hold on, as nodes then lie no less deep.
+/// how far it is. Its tables serve one search after another: between two of them no node has been come to,
+/// and the lows hold on, as nodes then lie no less deep.
 #[derive(Drop)]
 pub struct Search {
     pub split: u32,
@@ -172,8 +165,8 @@ impl Search {
         distance < self.bound && distance < self.far.get(node)
     }
 
-    /// Whether a node at this distance, so much less, is surely no nearer than it was, or than the nearest end of
-    /// a way.
+    /// Whether a node at this distance, so much less, is surely no nearer than it was, or than the nearest
+    /// end of a way.
     pub fn is_past(&self, node: TreeNode, distance: u64, less: u64) -> bool
         requires far { HasNode self.now.far node }
         requires small { self.now.bound + less < 2 ^ 64 }
@@ -244,6 +237,7 @@ impl Search {
     // Puts the node next in order.
     fn settle(&mut self, node: TreeNode)
         requires node { HasNode self.old.order node }
+        requires place { HasNode self.old.reached.places node }
         requires few { self.old.looked + 1 < 2 ^ 64 }
         ensures rest { self.new ≡ record self.old { order = self.new.order; looked = self.old.looked + 1 } }
         ensures here { order_at self.new node ≡ self.old.looked + 1 }
@@ -252,6 +246,7 @@ impl Search {
     {
         self.looked += 1;
         self.order.set(node, self.looked);
+        self.reached.close(node);
     }
 }
 
@@ -300,8 +295,8 @@ pub fn rest_of(ground: &Ground<'_>, node: TreeNode) -> u64
     own_rest(ground, node)
 }
 
-// The same where places have prices and a slot is free under the node. Out of line, it costs nothing where places
-// are free.
+// The same where places have prices and a slot is free under the node. Out of line, it costs nothing where
+// places are free.
 #[cold]
 #[inline(never)]
 fn own_rest(ground: &Ground<'_>, node: TreeNode) -> u64
@@ -601,72 +596,6 @@ fn settle_goal(ground: &Ground<'_>, search: &mut Search)
             search.settle(node);
         }
     }
-}
-
-// The nearest node that was not looked from and is nearer than the bound. Of such nodes it is the first in the
-// row. The search looks through the block with the lowest floor, which then rises to the block's nearest node,
-// until no other block can have a nearer one.
-fn nearest(ground: &Ground<'_>, search: &mut Search) -> Option<TreeNode>
-    requires ground { IsGround ground.now }
-    requires searching { IsSearching ground.now search.old }
-    ensures rest { AreFloorsNew search.old search.new }
-    ensures searching { IsSearching ground.now search.new }
-    ensures node { MatchOption result
-        ((v : TreeNode) → order_at search.new v ≡ 0 → search.new.bound ≤ far_at search.new v)
-        (λ node. IsNearest ground.now search.new node) }
-{
-    while let Some(low) = search.reached.lowest_block(search.bound) {
-        let best = nearest_in(ground, search, low.block);
-        search.reached.raise(low.block, best.far);
-        if best.far <= low.floor || best.far < low.next {
-            return Some(search.reached.at(best.place));
-        }
-    }
-    None
-}
-
-// The place of a block's nearest node that was not looked from, if it is nearer than the bound. A node as near
-// as the floor is the nearest at once.
-fn nearest_in(ground: &Ground<'_>, search: &Search, block: usize) -> Candidate
-    requires ground { IsGround ground.now }
-    requires searching { IsSearching ground.now search.now }
-    requires block { block * 32 < search.now.reached.count }
-    ensures fresh { IsCandidate search.now result }
-    ensures least { (v : TreeNode) → far_at search.now v < 2 ^ 60 → order_at search.now v ≡ 0
-        → place_at search.now v / 32 ≡ block → result.far ≤ far_at search.now v }
-{
-    let _ = ground;
-    let floor = search.reached.floors[block];
-    let first = block * BLOCK;
-    let mut best = Candidate {
-        place: search.reached.count,
-        far: search.bound,
-    };
-    for k in first..search.reached.count.min(first + BLOCK) {
-        best = nearer(search, best, k);
-        if best.far <= floor {
-            return best;
-        }
-    }
-    best
-}
-
-// The nearer of two nodes, if one is nearer than the bound and was not looked from.
-fn nearer(search: &Search, best: Candidate, k: usize) -> Candidate
-    requires place { k < length search.now.reached.nodes.items }
-    requires far { HasNode search.now.far (reached_at search.now k) }
-    requires order { HasNode search.now.order (reached_at search.now k) }
-    ensures fresh { IsCandidate search.now best → k < search.now.reached.count → IsCandidate search.now result }
-    ensures least { result.far ≤ best.far }
-    ensures here { order_at search.now (reached_at search.now k) ≡ 0
-        → result.far ≤ far_at search.now (reached_at search.now k) }
-{
-    let node = search.reached.at(k);
-    let far = search.far_of(node);
-    if far >= best.far || search.order.get(node) != 0 {
-        return best;
-    }
-    Candidate { place: k, far }
 }
 
 // Takes all steps out of a node.

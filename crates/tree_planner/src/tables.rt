@@ -52,8 +52,8 @@ impl Drop for Tables {
     }
 }
 
-/// Tables in which no split is shipped, and all slots are free, where a start is worth so much and places have
-/// these prices.
+/// Tables in which no split is shipped, and all slots are free, where a start is worth so much and places
+/// have these prices.
 pub fn fresh_tables(
     alloc: Global,
     problem: &Problem,

@@ -1,4 +1,4 @@
-use Rattle.std.proofs.Common.{◌≡◌, ℕ, ◌<◌, ◌≤◌, length, ap, subst, sym, arith}
+use Rattle.std.proofs.Common.{◌≡◌, ℕ, ◌≤◌, length, ap, subst, sym, arith}
 use borrow.Author.Count.{below_more}
 use Rattle.tree_flow.specs.Nodes.{IsNode}
 use Rattle.tree_planner.specs.Reaching.{node_in}

@@ -1,2 +1,0 @@
-use Rattle.tree_planner.proofs.ImprovedBack.{improves_refl}
-use Rattle.tree_planner.proofs.back.over_first.Goals as goal

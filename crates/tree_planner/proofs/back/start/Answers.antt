@@ -1,4 +1,4 @@
-use Rattle.std.proofs.Common.{◌≡◌, ◌^◌, ◌∙◌, length, ap, sym, subst, inl, inr, arith}
+use Rattle.std.proofs.Common.{◌^◌, ◌∙◌, length, ap, sym, subst, inl, inr, arith}
 use Rattle.tree_planner.specs.declared.back.SearchBack.{SearchBack}
 use Rattle.tree_planner.specs.declared.back.StepBack.TheVariants.{Start}
 use Rattle.tree_planner.specs.Reaching.{IsAdded, IsRow}

@@ -1,4 +1,4 @@
-use Rattle.std.proofs.Common.{◌≡◌, ◌∙◌, ap, sym, arith}
+use Rattle.std.proofs.Common.{◌∙◌, ap, sym, arith}
 use Rattle.tree_flow.specs.Table.{at_node}
 use Rattle.tree_flow.proofs.Moved.{takes_slot}
 use Rattle.tree_planner.specs.View.{state_of}

@@ -1,11 +1,7 @@
-use Rattle.std.proofs.Common.{◌≡◌, ℕ, ◌+◌, ◌∙◌, ap, get_or, sym, subst, arith, length, Some}
+use Rattle.std.proofs.Common.{◌≡◌, ℕ, ◌∙◌, ap, get_or, arith, Some}
 use Rattle.std.specs.Prelude.{◌≢◌}
 use borrow.Author.Count.{below_more}
 use Rattle.std.proofs.lemmas.List.{get_or_default}
-use Rattle.tree_flow.specs.declared.nodes.End.{End}
-use Rattle.tree_flow.specs.declared.nodes.Place.TheVariants.{Stands}
-use Rattle.tree_flow.specs.Settled.{HasComeDown}
-use Rattle.tree_flow.specs.State.{place_of}
 use Rattle.wave_problem.specs.Assignment.{start_of}
 use Rattle.tree_planner.specs.View.{state_of}
 use Rattle.tree_planner.proofs.Paired.{no_pair, pair_of_start, pairs_known, start_of_pair}

@@ -1,5 +1,4 @@
-use Rattle.std.proofs.Common.{Some, subst, sym, arith}
-use Rattle.tree_planner.specs.Engine.{IsStandingBut}
+use Rattle.std.proofs.Common.{arith}
 use Rattle.tree_planner.proofs.refill.fill.Goals as goal
 
 pub follow-requires-clause-standing : goal.follow-requires-clause-standing

@@ -1,4 +1,4 @@
-use Rattle.std.proofs.Common.{◌<◌, ◌^◌, length, ap, subst, sym, arith}
+use Rattle.std.proofs.Common.{◌^◌, length, ap, subst, sym, arith}
 use Rattle.tree_flow.specs.Nodes.{IsNode}
 use Rattle.tree_planner.specs.Reaching.{node_in}
 use Rattle.tree_planner.proofs.Added.{has_node, over_sized}

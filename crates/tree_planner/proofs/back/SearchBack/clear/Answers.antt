@@ -1,6 +1,5 @@
 use Rattle.tree_planner.specs.SearchingBack.{far_at, order_at}
-use Rattle.tree_planner.proofs.Added.{over_sized}
-use Rattle.tree_planner.proofs.Rowed.{all_left, last_known, one_left}
+use Rattle.tree_planner.proofs.Rowed.{all_left}
 use Rattle.tree_planner.proofs.back.SearchBack.clear.Goals as goal
 
 pub loop-node-init : goal.loop-node-init

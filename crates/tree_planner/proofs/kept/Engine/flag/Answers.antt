@@ -1,6 +1,6 @@
 use Rattle.std.proofs.Common.{◌∙◌, true, sym, ap, subst, inl, inr}
 use Rattle.std.proofs.lemmas.Bool.{cases_Bool}
-use Rattle.wave_problem.specs.Wave.{Wave}
+use Rattle.wave_problem.specs.Wave.{worker_at, Wave}
 use Rattle.tree_planner.specs.Going.{HasSameGround}
 use Rattle.tree_planner.proofs.Flagged.{flag_here, flag_other, ground_with_pending}
 use Rattle.tree_planner.proofs.kept.Engine.flag.Goals as goal
@@ -23,3 +23,6 @@ pub returns-clause-others : goal.returns-clause-others
 returns-clause-others c =
     flag_other c.args.self.now.wave c.pend.new.self.wave c.args.split true
     (ap (λ (x : Wave). x.splits) c.in_ok-pend.ensures.wave)
+
+pub returns-clause-lines : goal.returns-clause-lines
+returns-clause-lines c = λ w other. ap (λ (x : Wave). worker_at x w) c.in_ok-pend.ensures.wave

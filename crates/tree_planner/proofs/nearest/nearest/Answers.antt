@@ -1,9 +1,9 @@
 use Rattle.std.proofs.Common.{inl, inr, subst, sym}
 use Rattle.tree_planner.specs.Searching.{IsNearest}
 use Rattle.tree_planner.proofs.Floors.{floors_trans, raised_kept, raised_nearest, raised_rest}
-use Rattle.tree_planner.proofs.search.nearest.Goals as goal
-use Rattle.tree_planner.proofs.search.nearest.Goals.{then-best-low-via-then-best-low}
-use Rattle.tree_planner.proofs.search.nearest.Goals.{then-best-low-via-else-best-low+then-best-low-2}
+use Rattle.tree_planner.proofs.nearest.nearest.Goals as goal
+use Rattle.tree_planner.proofs.nearest.nearest.Goals.{then-best-low-via-then-best-low}
+use Rattle.tree_planner.proofs.nearest.nearest.Goals.{then-best-low-via-else-best-low+then-best-low-2}
 
 pub loop-low-preserved : goal.loop-low-preserved
 loop-low-preserved c =

@@ -1,6 +1,6 @@
 use Rattle.std.proofs.Common.{◌≡◌, ℕ, ◌*◌, ◌<◌, ◌≤◌}
 use Rattle.tree_planner.specs.Searching.{far_at, order_at, reached_at, IsCandidate}
-use Rattle.tree_planner.proofs.search.nearest_in.Given as goal
+use Rattle.tree_planner.proofs.nearest.nearest_in.Given as goal
 
 abbrev pub invariant-loop-k : goal.invariant-loop-k
 invariant-loop-k l = record {

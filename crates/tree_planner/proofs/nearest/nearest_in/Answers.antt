@@ -1,7 +1,7 @@
 use Rattle.std.proofs.Common.{◌≡◌, ℕ, ◌*◌, ◌≤◌, arith}
 use borrow.Author.Count.{below_more}
 use Rattle.tree_planner.specs.Searching.{far_at, order_at, reached_at}
-use Rattle.tree_planner.proofs.search.nearest_in.Goals as goal
+use Rattle.tree_planner.proofs.nearest.nearest_in.Goals as goal
 
 pub loop-k-preserved : goal.loop-k-preserved
 loop-k-preserved c =

@@ -1,6 +1,6 @@
 use Rattle.tree_planner.specs.Searching.{AreFloorsNew, IsSearching}
 use Rattle.tree_planner.proofs.Floors.{below}
-use Rattle.tree_planner.proofs.search.nearest.Given as goal
+use Rattle.tree_planner.proofs.nearest.nearest.Given as goal
 
 abbrev pub invariant-loop-low : goal.invariant-loop-low
 invariant-loop-low l = record {
