@@ -1,5 +1,5 @@
 -- How counts read over bases that go on, and how they are made one by one.
-use Rattle.std.proofs.Common.{◌≡◌, ℕ, zero, suc, ◌+◌, ◌-◌, ◌%◌, ◌^◌, ◌<◌, List, [], ◌∷◌, ◌++◌, length}
+use Rattle.std.proofs.Common.{[], ◌≡◌, ℕ, zero, suc, ◌+◌, ◌-◌, ◌%◌, ◌^◌, ◌<◌, List, ◌∷◌, ◌++◌, length}
 use Rattle.std.proofs.Common.{All, take, get_or, slice_get, slice_index_or, Some, refl, ap, ◌∙◌, arith}
 use Rattle.std.proofs.Math.Nat.{mod-eq_of_lt}
 use Rattle.std.proofs.lemmas.List.{get_or_append_left}
@@ -71,10 +71,6 @@ length-rises [] [] same = refl
 length-rises [] (c ∷ counts) same = absurd (omega arith)
 length-rises (b ∷ base) [] same = absurd (omega arith)
 length-rises (b ∷ base) (c ∷ counts) same = ap suc (length-rises base counts (omega arith))
-
--- counts are near themselves
-pub near_itself : (counts : List ℕ) → AreNear counts counts
-near_itself counts i less = (omega arith, omega arith)
 
 -- the rises lead back to the counts
 pub from_rises : (base counts : List ℕ) → length base ≡ length counts → All (λ c. c < 2 ^ 64) counts →

@@ -1,5 +1,5 @@
 -- Results that are handed in, and attempts that run no more.
-use Rattle.std.proofs.Common.{◌≡◌, ℕ, zero, suc, ◌<◌, List, [], length, true, false, not, Some, refl, ap, ◌∙◌}
+use Rattle.std.proofs.Common.{[], ◌≡◌, ℕ, zero, suc, ◌<◌, List, length, true, false, not, Some, refl, ap, ◌∙◌}
 use Rattle.std.proofs.Common.{subst, arith, get_or}
 use Rattle.std.proofs.lemmas.List.{length-map}
 use Rattle.std.proofs.lemmas.List.FromFn.{length-range_with_len}
@@ -43,12 +43,6 @@ text_inside job a split w kept start =
       ap length kept.whole.texts,
       length-range_with_len 0 (length job.setup.cluster.splits),
     )
-
-pub split_inside : (job : Job) (a split w : ℕ) → IsKept job →
-    start_of job.state a ≡ Some (record { work = works.Split split; worker = w }) →
-    split < length job.setup.cluster.splits
-split_inside job a split w kept start =
-    (start_known job.setup job.state a (record { work = works.Split split; worker = w }) kept.tidy start).work
 
 pub part_inside : (job : Job) (a r w : ℕ) → IsKept job →
     start_of job.state a ≡ Some (record { work = works.Part r; worker = w }) → r < job.setup.cluster.parts

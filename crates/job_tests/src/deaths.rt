@@ -58,10 +58,7 @@ fn a_hand_grows_until_the_history_is_full(rt: HostRuntime) {
     };
     let job = job_of(&rt, rt.alloc(), &[16], &rows, 1, 50, limits).expect(&rt, "no job");
     let told = tell(&rt, rt.alloc(), run(&rt, rt.alloc(), job, &gate));
-    assert!(rt;
-        matches!(told, Told::Error(RunError::HistoryFull)),
-        "{told:?}"
-    );
+    assert_eq!(rt; told, Told::Error(RunError::HistoryFull));
     let begun = gate.seen.begun.load(Ordering::SeqCst);
     assert!(rt; begun > 3500 && begun < 8192, "{begun}");
 }

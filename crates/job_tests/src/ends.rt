@@ -17,10 +17,7 @@ fn a_full_history_ends_the_run(rt: HostRuntime) {
         sweeps: 0,
     };
     let told = run_rows(&rt, rt.alloc(), &[1, 1], &APART, limits, &Yields);
-    assert!(rt;
-        matches!(told, Told::Error(RunError::HistoryFull)),
-        "{told:?}"
-    );
+    assert_eq!(rt; told, Told::Error(RunError::HistoryFull));
 }
 
 // The third sweep finds no place, while the map is held.
@@ -33,20 +30,14 @@ fn a_history_full_of_sweeps_ends_the_run(rt: HostRuntime) {
     };
     let gate = Holds::new(u64::MAX, Count::Turns, 3, Pace::Each(Turn::Sweep));
     let told = run_rows(&rt, rt.alloc(), &[1, 1], &APART, limits, &gate);
-    assert!(rt;
-        matches!(told, Told::Error(RunError::HistoryFull)),
-        "{told:?}"
-    );
+    assert_eq!(rt; told, Told::Error(RunError::HistoryFull));
 }
 
 #[test]
 fn over_ends_the_run_wherever_it_is_answered(rt: HostRuntime) {
     for at in [Ask::Before, Ask::After, Ask::Turn] {
         let told = run_rows(&rt, rt.alloc(), &[1, 1], &APART, AMPLE, &Ends { at });
-        assert!(rt;
-            matches!(told, Told::Error(RunError::GateLimit)),
-            "{told:?}"
-        );
+        assert_eq!(rt; told, Told::Error(RunError::GateLimit));
     }
 }
 

@@ -1,15 +1,15 @@
 -- What closed lanes and a closed board say.
-use Rattle.std.proofs.Common.{◌≡◌, ℕ, ◌+◌, ◌<◌, ◌∙◌, All, List, [], ◌∷◌, ◌++◌, Some, map, ap, append_assoc}
+use Rattle.std.proofs.Common.{[], ◌≡◌, ℕ, ◌+◌, ◌<◌, ◌∙◌, All, List, ◌∷◌, ◌++◌, Some, ap, append_assoc}
 use Rattle.std.proofs.Common.{arith, get_or, length, length-append, refl, subst, sym}
-use Rattle.std.specs.Prelude.{option_map, slice_get, slice_index}
+use Rattle.std.specs.Prelude.{slice_get, slice_index}
 use Rattle.std.proofs.Math.Seq.{get_or-append_seam}
 use Rattle.std.proofs.lemmas.List.Elements.{All-head}
-use Rattle.std.proofs.lemmas.Option.{same_Some, slice_get-map, slice_get_read}
+use Rattle.std.proofs.lemmas.Option.{slice_get_read}
 use Rattle.beat_board.specs.Values.{AreToldOnce, AreWithin, ReaderValue, SeatValue, beats_by}
 use Rattle.lane_queue.specs.declared.order.Order.{Order}
-use Rattle.lane_queue.specs.Lanes.{AreWhole, LaneValue, PassValue, depths_of, one_each, puts_of, takes_of}
+use Rattle.lane_queue.specs.Lanes.{AreWhole, PassValue, depths_of, one_each, puts_of, takes_of}
 use Rattle.lane_queue.specs.Orders.{Settles}
-use Rattle.job_threads.specs.Closing.{AreCounted, IsHandedOver, first_pass}
+use Rattle.job_threads.specs.Closing.{AreCounted, IsHandedOver}
 
 -- two halves are the whole lane
 halves : (a b : ℕ) → a ≡ 1 → b ≡ 1 → AreWhole (a ∷ b ∷ [])
@@ -58,11 +58,3 @@ behind all front rest x is =
     let long : length all ≡ length front + length (x ∷ rest) = ap length is ∙ length-append front (x ∷ rest) in
     slice_get_read all (length all) (length front) x refl (omega (arith, long))
     (sym (ap (λ (l : List _). get_or l (length front) x) is ∙ get_or-append_seam front x rest x))
-
--- the first pass of a lane of the list
-pub first_of : (lanes : List LaneValue) (passes : List PassValue) (i : ℕ) (lane : LaneValue)
-    (pass : PassValue) → passes ≡ map first_pass lanes → slice_get passes i ≡ Some pass →
-    slice_get lanes i ≡ Some lane → pass ≡ first_pass lane
-first_of lanes passes i lane pass is got found =
-    same_Some _ _ (sym got ∙ ap (λ (l : List PassValue). slice_get l i) is
-    ∙ slice_get-map first_pass lanes i ∙ ap (option_map first_pass) found)

@@ -1,5 +1,5 @@
 -- All passes in one, the last first, and what is taken with it.
-use Rattle.std.proofs.Common.{◌≡◌, ℕ, true, List, [], ◌∷◌, ◌++◌, length, refl, ap, ◌∙◌, subst}
+use Rattle.std.proofs.Common.{[], ◌≡◌, ℕ, true, List, ◌∷◌, ◌++◌, length, refl, ap, ◌∙◌, subst}
 use Rattle.std.proofs.Common.{arith, append_assoc, length-append}
 use Rattle.std.proofs.lemmas.List.{append-nil}
 use Rattle.std.proofs.lemmas.List.Sums.{sum_by-append}
@@ -18,10 +18,6 @@ gathered cs = hand (puts_of cs) (takes_of cs) (depths_of cs) (one_each cs)
 pub alone_none : (xs : List Order) → is_alone xs [] ≡ true
 alone_none [] = refl
 alone_none (x ∷ xs) = refl
-
-pub first : (v : View) (x : PassValue) → v ≡ hand v.puts v.takes (depth_of v.depths ∷ []) true
-    → v.puts ≡ x.puts → v.takes ≡ x.takes → depth_of v.depths ≡ x.depth → v ≡ gathered (x ∷ [])
-first v x e p t d = grind (arith, append-nil, alone_none)
 
 pub next : (v w : View) (x : PassValue) (cs : List PassValue)
     → v ≡ hand v.puts v.takes (depth_of v.depths ∷ []) true

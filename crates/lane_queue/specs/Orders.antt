@@ -1,5 +1,5 @@
 -- Orders, and lists of them.
-use Rattle.std.specs.Prelude.{◌≡◌, ℕ, ◌+◌, ◌⊎◌, Bool, true, false, List, [], ◌∷◌, ◌++◌, if◌then◌else◌, ◌==◌}
+use Rattle.std.specs.Prelude.{[], ◌≡◌, ℕ, ◌+◌, ◌⊎◌, Bool, true, false, List, ◌∷◌, ◌++◌}
 use Rattle.std.specs.List.{sum_by}
 use Rattle.lane_queue.specs.declared.order.Order.{Order}
 use Rattle.lane_queue.specs.declared.order.Order.TheVariants.{Map, Reduce}
@@ -8,10 +8,6 @@ use Rattle.lane_queue.specs.declared.order.Order.TheVariants.{Map, Reduce}
 abbrev pub attempt_of : Order → ℕ
 attempt_of (Map attempt text) = attempt
 attempt_of (Reduce attempt part runs) = attempt
-
--- how many of these orders are this attempt's
-abbrev pub count_of : ℕ → List Order → ℕ
-count_of attempt orders = sum_by (λ o. if attempt_of o == attempt then 1 else 0) orders
 
 -- the first list is left where some elements of the second are struck out
 abbrev pub IsSub : List Order → List Order → Type 0

@@ -1,7 +1,7 @@
 -- The heads of a plan, split by split; and the lines of workers with queues.
-use Rattle.std.proofs.Common.{◌≡◌, ℕ, zero, suc, ◌+◌, ◌-◌, ◌<◌, ◌≤◌, ◌==◌, ◌⊎◌, List, [], ◌∷◌, ◌++◌}
+use Rattle.std.proofs.Common.{[], ◌≡◌, ℕ, zero, suc, ◌+◌, ◌-◌, ◌<◌, ◌≤◌, ◌==◌, ◌⊎◌, List, ◌∷◌, ◌++◌}
 use Rattle.std.proofs.Common.{length, take, cond, get_or, inl, inr, Option, None, Some, refl, sym, ap, ◌∙◌, arith}
-use Rattle.std.proofs.Common.{get_or-set_other, get_or-set_same, length-append, set, subst}
+use Rattle.std.proofs.Common.{length-append, subst}
 use Rattle.std.specs.Prelude.{All, IfSome, MatchOption, max, min, slice_index_or}
 use Rattle.std.proofs.lemmas.Bool.{cases_eq, eq-eqb, ne_eqb}
 use Rattle.std.proofs.lemmas.List.{take_all}
@@ -56,16 +56,6 @@ pub record AreHeadsSoFar (lines left : List WorkerLine) (plan starts : List (Opt
   pub passed : (s w : ℕ) → s < i → start_of plan s ≡ Some w → start_of starts s ≡ None →
       (worker_in left w).free ≡ 0
 
-pub no_heads : (lines : List WorkerLine) (plan : List (Option ℕ)) → AreHeadsSoFar lines lines plan [] 0
-no_heads lines plan = record {
-  size = refl;
-  of_plan = λ s w is. absurd (let none = is in cc);
-  left_is = λ w. omega arith;
-  as_many = λ w. omega arith;
-  first = λ s k w lt. absurd (omega (arith, lt));
-  passed = λ s w lt. absurd (omega (arith, lt));
-}
-
 -- all splits are gone through
 pub all_heads : (lines left : List WorkerLine) (plan starts : List (Option ℕ)) (i : ℕ) → length plan ≤ i →
     AreHeadsSoFar lines left plan starts i → AreHeads lines plan starts
@@ -84,22 +74,6 @@ on_or_off : (u v : ℕ) → (IsOn u v ≡ 0) ⊎ ((u ≡ v) × (IsOn u v ≡ 1))
 on_or_off u v = elim (cases_eq u v) [
   | inl same ↦ inr (same, ap (λ b. let n : ℕ = cond b 1 0 in n) (eq-eqb u v same))
   | inr other ↦ inl (ap (λ b. let n : ℕ = cond b 1 0 in n) (ne_eqb u v other))
-]
-
--- a slot of one worker is taken
-pub slot_taken : (left : List WorkerLine) (w : ℕ) (line : WorkerLine) → w < length left →
-    line.free ≡ (worker_in left w).free - 1 → (v : ℕ) →
-    (worker_in (set left w line) v).free ≡ (worker_in left v).free - IsOn w v
-slot_taken left w line inside is v = elim (cases_eq w v) [
-  | inl same ↦
-      subst (λ x. (worker_in (set left w line) x).free ≡ (worker_in left x).free - IsOn w x) same
-      (ap (λ (l : WorkerLine). l.free) (get_or-set_same left w line _ inside) ∙ is
-      ∙ ap (λ n. (worker_in left w).free - n) (sym (ap (λ b. let n : ℕ = cond b 1 0 in n) (eq-eqb w w refl))))
-  | inr other ↦
-      let off : IsOn w v ≡ 0 = ap (λ b. let n : ℕ = cond b 1 0 in n) (ne_eqb w v other) in
-      let kept : (worker_in (set left w line) v).free ≡ (worker_in left v).free =
-      ap (λ (l : WorkerLine). l.free) (get_or-set_other left w v line _ (λ e. other (sym e))) in
-      omega (arith, off, kept)
 ]
 
 -- a start of a list with one more is one of the list, or the last

@@ -14,5 +14,7 @@ pub mod Nearness
 pub mod Backing
 pub mod AllParts
 pub mod Touching
+pub mod Lining
+pub mod Fitting
 pub mod Heads
 pub mod Queueing

@@ -1,9 +1,8 @@
 -- What keeps an engine near.
-use Rattle.std.proofs.Common.{◌≡◌, ℕ, ◌≤◌, List, [], ◌∷◌, All, Bool, length, map, refl, sym, ap, ◌∙◌, subst}
+use Rattle.std.proofs.Common.{[], ◌≡◌, ℕ, ◌≤◌, List, ◌∷◌, All, Bool, length, map, refl, sym, ap, ◌∙◌, subst}
 use Rattle.std.proofs.Common.{arith}
-use Rattle.std.specs.Prelude.{fold, min, zip}
+use Rattle.std.specs.Prelude.{fold, zip}
 use Rattle.std.proofs.lemmas.List.{length-map}
-use Rattle.std.proofs.lemmas.Slice.Zip.{length-zip}
 use Rattle.wave_problem.specs.declared.TheConstants.{MAX_SLOTS}
 use Rattle.wave_problem.specs.declared.lines.WorkerLine.{WorkerLine}
 use Rattle.wave_problem.specs.Wave.{Split, Wave, IsWithinLimits}
@@ -24,9 +23,9 @@ use Rattle.master_tables.specs.Entries.{shown_as}
 use Rattle.master_tables.specs.Lines.{split_lines}
 use Rattle.master_core.specs.declared.kept.Kept.{Kept}
 use Rattle.master_core.specs.declared.master.Master.TheInside.{Inside}
-use Rattle.master_core.specs.Inside.{setup_of, state_of, job_of, IsMaster}
+use Rattle.master_core.specs.Inside.{setup_of, state_of, job_of, HasNearEngine, IsMaster}
 use Rattle.master_core.specs.declared.touched.Touched.{Touched}
-use Rattle.master_core.specs.Near.{flags_of, HasPlaces, IsFlagged, IsNear}
+use Rattle.master_core.specs.Near.{flags_of, HasPlaces, IsNear}
 use Rattle.master_core.proofs.Accepting.{still_master}
 
 pub length-flags : (entries : List SplitEntry) → length (flags_of entries) ≡ length entries
@@ -60,7 +59,7 @@ near_swept s counts old new cluster dead next far near is =
 
 -- a master with another engine
 pub with_engine : {m : Inside} → IsMaster m → (engine : Kept) (touched : Touched) →
-    IsNear engine m.cluster m.holders m.workers.barred × IsFlagged engine touched (map shown_as m.splits.items) →
+    HasNearEngine (record m { engine = engine; touched = touched }) →
     IsMaster (record m { engine = engine; touched = touched })
 with_engine was engine touched near = still_master was refl was.kept was.made near
 
@@ -77,15 +76,6 @@ present_is_near {m = m} wave was is made =
       splits = ap (λ (x : Wave). x.splits) here;
       barred_are = ap (λ (x : Wave). x.barred) here;
     }
-
--- in a wave that was turned there are as many splits
-pub splits_turned : (old new : Wave) (lines : List WorkerLine) (flags : List Bool) →
-    new ≡ turned old lines flags → length flags ≡ length old.splits → length new.splits ≡ length old.splits
-splits_turned old new lines flags is size =
-    let pairs : List (Split × Bool) = zip old.splits flags in
-    let many : length pairs ≡ min (length old.splits) (length flags) = length-zip old.splits flags in
-    ap (λ (x : Wave). length x.splits) is ∙ length-map pairs (λ pair. record pair.0 { pending = pair.1 })
-    ∙ omega (arith, many, size)
 
 -- the lines of splits, in other states
 relined : (lines : List Split) (old new : List SplitState) (holders : List (List ℕ)) →

@@ -5,7 +5,7 @@ use Rattle.wave_problem.specs.declared.lines.WorkerLine.{WorkerLine}
 use Rattle.wave_problem.specs.Wave.{Split, Wave, IsWithinLimits, wave_from}
 use Rattle.master_state.specs.Steps.{problem_of, worker_line}
 use Rattle.master_state.specs.Jobs.{Job}
-use Rattle.master_state.proofs.Problems.{within_limits, length-splits, length-workers}
+use Rattle.master_state.proofs.Problems.{within_limits, length-splits}
 use Rattle.master_core.specs.declared.master.Master.TheInside.{Inside}
 use Rattle.master_tables.specs.Entries.{shown_as}
 use Rattle.master_core.specs.Inside.{setup_of, state_of, job_of, IsMaster}
@@ -39,10 +39,3 @@ splits_of_problem m j problem was is same =
     ap (λ (wave : Wave). length wave.splits) same
     ∙ length-splits (setup_of m) (state_of m) was.kept.tidy
     ∙ ap (λ (i : Job). length i.setup.cluster.splits) is
-
-pub workers_of_problem : (m : Inside) (j : Job) (problem : Wave) → IsMaster m → job_of m ≡ j →
-    problem ≡ problem_of (setup_of m) (state_of m) → length problem.workers ≡ length j.setup.cluster.slots
-workers_of_problem m j problem was is same =
-    ap (λ (wave : Wave). length wave.workers) same
-    ∙ length-workers (setup_of m) (state_of m) was.kept.tidy
-    ∙ ap (λ (i : Job). length i.setup.cluster.slots) is

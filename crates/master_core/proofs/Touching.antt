@@ -25,15 +25,18 @@ use Rattle.master_core.specs.declared.touched.Touched.{Touched}
 use Rattle.master_tables.specs.Lines.{split_lines}
 use Rattle.master_core.specs.declared.master.Master.TheInside.{Inside}
 use Rattle.master_core.specs.Inside.{job_of, setup_of, state_of}
-use Rattle.master_core.specs.Near.{HasFlags, IsFlagged, IsTouched}
+use Rattle.master_core.specs.Near.{HasFlags, IsFlagged, IsTouched, StaysTouched}
 
 -- whether a split is pending in these states
 abbrev flag_in : List SplitState → ℕ → Bool
 flag_in states s = slice_index_or (map is_pending states) s false
 
--- what was touched before still is
-abbrev StaysTouched : Touched → Touched → Type 0
-StaysTouched old new = (s : ℕ) → IsTouched old s → IsTouched new s
+pub stays_then : (first now next : Touched) → StaysTouched first now → StaysTouched now next →
+    StaysTouched first next
+stays_then first now next one two = record {
+  splits = λ s was. two.splits s (one.splits s was);
+  workers = λ w was. two.workers w (one.workers w was);
+}
 
 -- where each split is touched or keeps its flag
 flagged_still : (kept : Kept) (old new : Touched) (before after : List SplitState) → StaysTouched old new →
@@ -41,13 +44,19 @@ flagged_still : (kept : Kept) (old new : Touched) (before after : List SplitStat
     IsFlagged kept old before → IsFlagged kept new after
 flagged_still None old new before after stays same flagged = tt
 flagged_still (Near engine) old new before after stays same flagged = λ s l. elim (flagged s l) [
-  | inl was ↦ inl (stays s was)
+  | inl was ↦ inl (stays.splits s was)
   | inr is ↦ elim (same s) [
     | inl touched ↦ inl touched
     | inr kept ↦ inr (is ∙ sym kept)
   ]
 ]
 flagged_still (Far engine) old new before after stays same flagged = tt
+
+-- and so where no split changes
+pub flagged_then : (kept : Kept) (old new : Touched) (states : List SplitState) → StaysTouched old new →
+    IsFlagged kept old states → IsFlagged kept new states
+flagged_then kept old new states stays flagged =
+    flagged_still kept old new states states stays (λ s. inr refl) flagged
 
 -- the other entries show what they showed
 shown_other : (change : SplitEntry → SplitEntry) (entries : List SplitEntry) (n k : ℕ) → k ≢ n →
@@ -141,17 +150,19 @@ none_flagged wave splits flags others = record {
   ];
 }
 
+-- the others are still to come behind the place
+pub ahead_then : (splits : List ℕ) (i split : ℕ) → i < length splits → split ≡ slice_index_or splits i split →
+    (k : ℕ) → k ≢ split → IsAhead splits i k → IsAhead splits (i + 1) k
+ahead_then splits i split known is k other (j, from, within, found) = elim (cases_eq j i) [
+  | inl here ↦ absurd (other (sym found ∙ ap (λ (j : ℕ). slice_index_or splits j k) here
+      ∙ get_or_default splits i k split known ∙ sym is))
+  | inr later ↦ (j, (let apart = later in omega arith), within, found)
+]
+
 -- one split more is flagged
 module _ (old now next : Wave) (splits : List ℕ) (flags : List Bool) (i split : ℕ)
     (before : AreFlaggedBefore old now splits flags i) (known : i < length splits)
     (is : split ≡ slice_index_or splits i split) where
-  ahead : (k : ℕ) → k ≢ split → IsAhead splits i k → IsAhead splits (i + 1) k
-  ahead k other (j, from, within, found) = elim (cases_eq j i) [
-    | inl here ↦ absurd (other (sym found ∙ ap (λ (j : ℕ). slice_index_or splits j k) here
-        ∙ get_or_default splits i k split known ∙ sym is))
-    | inr later ↦ (j, (let apart = later in omega arith), within, found)
-  ]
-
   pub one_flagged : HasSameGround now next → HasFlag next flags split →
       ((k : ℕ) → k ≢ split → (split_at next k).pending ≡ (split_at now k).pending) →
       AreFlaggedBefore old next splits flags (i + 1)
@@ -160,7 +171,7 @@ module _ (old now next : Wave) (splits : List ℕ) (flags : List Bool) (i split 
     done = λ k l. elim (cases_eq k split) [
       | inl same ↦ inr (subst (HasFlag next flags) (sym same) here)
       | inr other ↦ elim (before.done k l) [
-        | inl left ↦ inl (ahead k other left)
+        | inl left ↦ inl (ahead_then splits i split known is k other left)
         | inr has ↦ inr (others k other ∙ has)
       ]
     ];
@@ -173,7 +184,7 @@ module _ (old now next : Wave) (splits : List ℕ) (flags : List Bool) (i split 
     done = λ k l. elim (cases_eq k split) [
       | inl same ↦ absurd (let size = splits_same old now before.ground in omega (arith, same, past, l, size))
       | inr other ↦ elim (before.done k l) [
-        | inl left ↦ inl (ahead k other left)
+        | inl left ↦ inl (ahead_then splits i split known is k other left)
         | inr has ↦ inr has
       ]
     ];

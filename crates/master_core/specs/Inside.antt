@@ -2,10 +2,11 @@
 use Rattle.std.specs.Prelude.{◌≡◌, ◌≤◌, length, map, vec_capacity}
 use Rattle.master_state.specs.States.{Cluster, Setup, State}
 use Rattle.master_state.specs.Jobs.{Job, IsKept}
+use Rattle.master_state.specs.Steps.{worker_line}
 use Rattle.master_core.specs.declared.cluster.Cluster.TheInside as cluster
 use Rattle.master_core.specs.declared.master.Master.TheInside.{Inside}
 use Rattle.master_core.specs.Clusters.{cluster_from}
-use Rattle.master_core.specs.Near.{IsFlagged, IsNear}
+use Rattle.master_core.specs.Near.{IsFlagged, IsLined, IsNear}
 use Rattle.master_tables.specs.Entries.{shown_as}
 use Rattle.master_tables.specs.Kept.{AreOfSplits}
 
@@ -45,10 +46,12 @@ pub record HasRoom (m : Inside) : Type 0 where
   pub workers : m.sweeps.workers ≡ length m.cluster.slots
   pub results : m.cluster.parts ≤ vec_capacity m.results
 
--- the engine is near where it says so, and has the flags of all splits that were not touched
+-- the engine is near where it says so, and has the flags of all splits and the lines of all workers that
+-- were not touched
 abbrev pub HasNearEngine : Inside → Type 0
 HasNearEngine m = IsNear m.engine m.cluster m.holders m.workers.barred
     × IsFlagged m.engine m.touched (map shown_as m.splits.items)
+    × IsLined m.engine m.touched (map worker_line m.workers.each)
 
 -- what every master keeps
 pub record IsMaster (m : Inside) : Type 0 where

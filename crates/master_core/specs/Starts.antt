@@ -24,7 +24,8 @@ pub record HasTotals (job : Job) (plan : List (Option ℕ)) (certified : Certifi
   pub count : certified.count ≡ length (pairs_of plan)
   pub cost : certified.cost ≡ total (problem_of job.setup job.state) (pairs_of plan)
 
--- a plan made over the network with racks makes just these starts, by rising split, and some prices certify it
+-- a plan made over the network with racks makes just these starts, by rising split, and some prices certify
+-- it
 pub record ArePlanned (wave : Wave) (pairs : List (ℕ × ℕ)) : Type 0 where
   pub plan : List (Option ℕ)
   pub prices : PriceList

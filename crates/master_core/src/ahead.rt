@@ -14,8 +14,8 @@ use wave_planner::Planned;
 use wave_problem::{Plan, WorkerLine};
 use worker_table::Worker;
 
-/// A plan ahead: all pending splits on the workers' queues, with its prices; and its heads, each with its worker,
-/// by rising split.
+/// A plan ahead: all pending splits on the workers' queues, with its prices; and its heads, each with its
+/// worker, by rising split.
 #[derive(Drop)]
 pub struct Ahead {
     pub planned: Planned,
@@ -74,8 +74,8 @@ fn asked_at(asked: &[u64], place: usize) -> u8
     }
 }
 
-/// The heads of a plan: of the splits that it gives each worker, by rising number, as many as the worker has free
-/// slots.
+/// The heads of a plan: of the splits that it gives each worker, by rising number, as many as the worker has
+/// free slots.
 pub(crate) fn heads_of(alloc: Global, plan: &Plan, workers: &[Worker]) -> Result<Plan, AllocError>
     requires within { All (λ worker. worker.taken ≤ worker.slots) workers.now }
     ensures heads { IfOk result (λ heads.

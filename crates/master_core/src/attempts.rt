@@ -1,4 +1,5 @@
 ghost use Rattle.std.specs.Prelude.{◌≡◌, ◌<◌, ℕ, List, false, length};
+ghost use Rattle.wave_problem.specs.declared.lines.WorkerLine.{WorkerLine};
 ghost use Rattle.worker_table.specs.Workers.{taken_slots};
 ghost use Rattle.compact_lists.specs.Lists.{is_join};
 ghost use Rattle.master_state.specs.States.{Cluster, State};
@@ -6,7 +7,7 @@ ghost use Rattle.master_state.specs.Jobs.{event_of};
 ghost use Rattle.master_core.specs.Attempts.{freed_by, part_end, split_end};
 ghost use Rattle.master_state.specs.declared.states.SplitState.{SplitState};
 ghost use Rattle.master_core.specs.declared.touched.Touched.{Touched};
-ghost use Rattle.master_core.specs.Near.{IsFlagged, IsNear};
+ghost use Rattle.master_core.specs.Near.{IsFlagged, IsLined, IsNear};
 
 use crate::kept::Kept;
 use master_state::Event;
@@ -65,6 +66,8 @@ pub fn free_slot(workers: &mut WorkerTable, engine: &mut Kept, found: RunningSpl
         → IsNear engine.new cluster holders workers.new.barred }
     ensures flagged { (touched : Touched) (states : List SplitState)
         → IsFlagged engine.old touched states → IsFlagged engine.new touched states }
+    ensures lined { (touched : Touched) (lines : List WorkerLine)
+        → IsLined engine.old touched lines → IsLined engine.new touched lines }
 {
     workers.give_slot(found.worker);
     match end {

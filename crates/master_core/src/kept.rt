@@ -1,10 +1,11 @@
 //! The engine that a master keeps from wave to wave.
 ghost use Rattle.std.specs.Prelude.{◌≡◌, ℕ, List, []};
+ghost use Rattle.wave_problem.specs.declared.lines.WorkerLine.{WorkerLine};
 ghost use Rattle.worker_table.specs.Bars.{Bars};
 ghost use Rattle.master_state.specs.States.{Cluster};
 ghost use Rattle.master_state.specs.declared.states.SplitState.{SplitState};
 ghost use Rattle.master_core.specs.declared.touched.Touched.{Touched};
-ghost use Rattle.master_core.specs.Near.{IsFlagged, IsNear};
+ghost use Rattle.master_core.specs.Near.{IsFlagged, IsLined, IsNear};
 
 use std::mem;
 use tree_planner::Engine;
@@ -28,6 +29,7 @@ impl Kept {
             → IsNear self.new cluster holders barred }
         ensures flagged { (touched : Touched) (states : List SplitState)
             → IsFlagged self.new touched states }
+        ensures lined { (touched : Touched) (lines : List WorkerLine) → IsLined self.new touched lines }
     {
         // (an engine is big: it is moved only where its kind changes)
         if matches!(self, Kept::Near(_)) {
@@ -48,6 +50,10 @@ impl Kept {
             → IsFlagged self.old touched old
             → (dead.now.items ≡ [] → new ≡ old)
             → IsFlagged self.new touched new }
+        ensures lined { (touched : Touched) (old new : List WorkerLine)
+            → IsLined self.old touched old
+            → (dead.now.items ≡ [] → new ≡ old)
+            → IsLined self.new touched new }
     {
         if !dead.is_empty() {
             self.turn_far();

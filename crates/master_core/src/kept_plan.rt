@@ -1,10 +1,10 @@
 //! The engine of a wave, with its plan or its starts alone.
 ghost use Rattle.std.specs.Prelude.{◌≡◌, ◌≢◌, ℕ, ◌<◌, ◌≤◌, false, length, map, slice_index_or, All, IfOk};
-ghost use Rattle.std.specs.Prelude.{◌⊎◌, IsTrue, OnOk};
+ghost use Rattle.std.specs.Prelude.{◌⊎◌, ◌++◌, IsPermutation, IsTrue, OnOk, Some};
 ghost use Rattle.std.specs.List.{Contains};
 ghost use Rattle.wave_problem.specs.declared.TheConstants.{MAX_SLOTS, MAX_SPLITS};
 ghost use Rattle.wave_problem.specs.Assignment.{IsBest, pairs_of, total};
-ghost use Rattle.wave_problem.specs.Wave.{split_at, worker_in};
+ghost use Rattle.wave_problem.specs.Wave.{split_at, worker_at, worker_in};
 ghost use Rattle.price_certificate.specs.Certificate.{claim, Certifies, HasOneSize};
 ghost use Rattle.flow_network.specs.declared.kinds.NetworkKind.{NetworkKind};
 ghost use Rattle.tree_flow.specs.Slots.{with_workers};
@@ -12,7 +12,8 @@ ghost use Rattle.tree_planner.specs.Going.{flagged, turned, HasSameGround};
 ghost use Rattle.master_state.specs.Steps.{worker_line};
 ghost use Rattle.wave_planner.specs.Planned.{IsMadeOver};
 ghost use Rattle.master_tables.specs.Entries.{shown_as};
-ghost use Rattle.master_core.specs.Near.{flags_of, HasFlags, IsSettled};
+ghost use Rattle.master_core.specs.Near.{flags_of, HasFlags, HasLines, IsSettled};
+ghost use Rattle.master_core.specs.Fitting.{AreFitAmong, AreLinedBut, AreOthersLined, HasOtherLines};
 ghost use Rattle.master_core.specs.Starts.{ArePlanned};
 
 use crate::lists::pending_flags;
@@ -26,8 +27,8 @@ use wave_planner::{Planned, cost_of};
 use wave_problem::{Problem, WorkerLine};
 use worker_table::Worker;
 
-// To ship all splits anew takes as long as so many searches, one for each slot that comes back. A search looks
-// at each split.
+// To ship all splits anew takes as long as so many searches, one for each slot that comes back. A search
+// looks at each split.
 const MANY_SLOTS: usize = 256;
 
 /// The plan of an engine with all splits shipped, and prices that certify it.
@@ -100,9 +101,9 @@ pub(crate) fn fresh(alloc: Global, problem: Problem) -> Result<Engine, AllocErro
     Ok(engine)
 }
 
-/// The engine after it kept up with these workers and these splits, with all splits shipped. The fewer of them
-/// have changed, the less there is to do: only touched splits are looked at. Where other workers live, the
-/// engine is made anew.
+/// The engine after it kept up with these workers and these splits, with all splits shipped. The fewer of
+/// them have changed, the less there is to do: only touched splits and touched workers are looked at. Where
+/// other workers live, the engine is made anew.
 pub(crate) fn kept_up(
     alloc: Global,
     engine: Engine,
@@ -115,32 +116,37 @@ pub(crate) fn kept_up(
     requires most { All (λ line. line.free ≤ MAX_SLOTS) (map worker_line workers.now) }
     requires splits { length entries.now ≡ length engine.wave.splits }
     requires flagged { HasFlags engine.wave touched.now (map shown_as entries.now) }
+    requires lined { HasLines engine.wave touched.now (map worker_line workers.now) }
     ensures wave { IfOk result (λ kept.
         kept.wave ≡ turned engine.wave (map worker_line workers.now) (flags_of entries.now)) }
     ensures settled { IfOk result IsSettled }
 {
     let mut engine = engine;
-    flag_splits(alloc, &mut engine, touched, entries)?;
-    put_workers(alloc, &mut engine, workers, touched, entries)?;
+    let started = flag_splits(alloc, &mut engine, touched, entries)?;
+    put_workers(alloc, &mut engine, workers, touched, &started, entries)?;
     engine.settle(alloc)?;
     Ok(engine)
 }
 
-// Lets just these splits be pending, of which only touched ones may have changed.
+// Lets just these splits be pending, of which only touched ones may have changed. It answers the workers on
+// which splits started, and no others where only touched splits are looked at.
 fn flag_splits(
     alloc: Global,
     engine: &mut Engine,
     touched: &Touched,
     entries: &[SplitEntry],
-) -> Result<(), AllocError>
+) -> Result<Vec<WorkerNo>, AllocError>
     requires splits { length entries.now ≡ length engine.old.wave.splits }
     requires flagged { HasFlags engine.old.wave touched.now (map shown_as entries.now) }
     ensures ground { OnOk result (HasSameGround engine.old.wave engine.new.wave) }
     ensures flagged { OnOk result
         (flagged engine.new.wave.splits (flags_of entries.now) ≡ engine.new.wave.splits) }
+    ensures lines { IfOk result (λ started. IsTrue touched.now.any
+        ⊎ AreOthersLined engine.old.wave engine.new.wave started.items) }
 {
     if touched.any {
-        flag_all(alloc, engine, entries)
+        flag_all(alloc, engine, entries)?;
+        Ok(Vec::new(alloc))
     } else {
         flag_each(alloc, engine, &touched.splits, entries)
     }
@@ -159,36 +165,42 @@ fn flag_all(alloc: Global, engine: &mut Engine, entries: &[SplitEntry]) -> Resul
     Ok(())
 }
 
-// Lets just these splits be pending, where each split that is not listed has its flag already.
+// Lets just these splits be pending, where each split that is not listed has its flag already. It answers the
+// workers on which splits started.
 fn flag_each(
     alloc: Global,
     engine: &mut Engine,
     splits: &[SplitNo],
     entries: &[SplitEntry],
-) -> Result<(), AllocError>
+) -> Result<Vec<WorkerNo>, AllocError>
     requires size { length entries.now ≡ length engine.old.wave.splits }
     requires others { (s : ℕ) → s < length engine.old.wave.splits → Contains splits.now s
         ⊎ ((split_at engine.old.wave s).pending ≡ slice_index_or (flags_of entries.now) s false) }
     ensures ground { OnOk result (HasSameGround engine.old.wave engine.new.wave) }
     ensures flagged { OnOk result
         (flagged engine.new.wave.splits (flags_of entries.now) ≡ engine.new.wave.splits) }
+    ensures lines { IfOk result (λ started.
+        AreOthersLined engine.old.wave engine.new.wave started.items) }
 {
+    let mut started = Vec::new(alloc);
     for i in 0..splits.len() {
         let split = splits[i];
         if split.index() < engine.problem().splits() {
-            flag_split(alloc, engine, split, entries)?;
+            if let Some(worker) = flag_split(alloc, engine, split, entries)? {
+                started.push(worker)?;
+            }
         }
     }
-    Ok(())
+    Ok(started)
 }
 
-// Lets the split be pending, or not, as its entry says.
+// Lets the split be pending, or not, as its entry says. It answers on which worker it started.
 fn flag_split(
     alloc: Global,
     engine: &mut Engine,
     split: SplitNo,
     entries: &[SplitEntry],
-) -> Result<(), AllocError>
+) -> Result<Option<WorkerNo>, AllocError>
     requires split { split < length engine.old.wave.splits }
     requires size { length entries.now ≡ length engine.old.wave.splits }
     ensures ground { OnOk result (HasSameGround engine.old.wave engine.new.wave) }
@@ -196,12 +208,14 @@ fn flag_split(
         ((split_at engine.new.wave split).pending ≡ slice_index_or (flags_of entries.now) split false) }
     ensures others { OnOk result ((s : ℕ) → s ≢ split
         → (split_at engine.new.wave s).pending ≡ (split_at engine.old.wave s).pending) }
+    ensures lines { IfOk result (λ started. (w : ℕ) → started ≢ Some w
+        → worker_at engine.new.wave w ≡ worker_at engine.old.wave w) }
 {
     let pending = flag_at(entries, split.index());
     if engine.problem().is_pending(split) != pending {
-        engine.flag(alloc, split, pending)?;
+        return engine.flag(alloc, split, pending);
     }
-    Ok(())
+    Ok(None)
 }
 
 // Whether the split at this place is pending.
@@ -218,17 +232,21 @@ fn put_workers(
     engine: &mut Engine,
     workers: &[Worker],
     touched: &Touched,
+    started: &[WorkerNo],
     entries: &[SplitEntry],
 ) -> Result<(), AllocError>
     requires workers { length workers.now ≡ length engine.old.wave.workers }
     requires within { All (λ worker. worker.taken ≤ worker.slots) workers.now }
     requires most { All (λ line. line.free ≤ MAX_SLOTS) (map worker_line workers.now) }
+    requires lined { AreLinedBut engine.old.wave touched.now started.now (map worker_line workers.now) }
     requires splits { length entries.now ≡ length engine.old.wave.splits }
     requires flagged { flagged engine.old.wave.splits (flags_of entries.now) ≡ engine.old.wave.splits }
     ensures { OnOk result (engine.new.wave
         ≡ turned engine.old.wave (map worker_line workers.now) (flags_of entries.now)) }
 {
-    if are_few_back(engine.problem(), workers, touched) && fit_workers(alloc, engine, workers)? {
+    if are_few_back(engine.problem(), workers, touched)
+        && fit_workers(alloc, engine, workers, touched, started)?
+    {
         return Ok(());
     }
     let lines = worker_lines(alloc, workers)?;
@@ -237,9 +255,9 @@ fn put_workers(
     Ok(())
 }
 
-// Whether so few slots come back that to search for each of them costs less than to ship all splits anew. The
-// end of a map attempt touches its split, and gives two slots back at most; parts are few. So where few splits
-// are touched, no worker is looked at.
+// Whether so few slots come back that to search for each of them costs less than to ship all splits anew.
+// The end of a map attempt touches its split, and gives two slots back at most; parts are few. So where few
+// splits are touched, no worker is looked at.
 fn are_few_back(problem: &Problem, workers: &[Worker], touched: &Touched) -> bool
     requires workers { length workers.now ≡ length problem.now.workers }
     requires within { All (λ worker. worker.taken ≤ worker.slots) workers.now }
@@ -255,9 +273,33 @@ fn are_few_back(problem: &Problem, workers: &[Worker], touched: &Touched) -> boo
     back < MANY_SLOTS
 }
 
-// Loses and frees slots until each worker has as many as its line says. It answers whether this could be done:
-// it can where the same workers live.
-fn fit_workers(alloc: Global, engine: &mut Engine, workers: &[Worker]) -> Result<bool, AllocError>
+// Loses and frees slots until each worker has as many as its line says, of which only touched ones may have
+// changed, and those on which splits started. It answers whether this could be done: it can where the same
+// workers live.
+fn fit_workers(
+    alloc: Global,
+    engine: &mut Engine,
+    workers: &[Worker],
+    touched: &Touched,
+    started: &[WorkerNo],
+) -> Result<bool, AllocError>
+    requires workers { length workers.now ≡ length engine.old.wave.workers }
+    requires within { All (λ worker. worker.taken ≤ worker.slots) workers.now }
+    requires most { All (λ line. line.free ≤ MAX_SLOTS) (map worker_line workers.now) }
+    requires lined { AreLinedBut engine.old.wave touched.now started.now (map worker_line workers.now) }
+    ensures ground { OnOk result (HasSameGround engine.old.wave engine.new.wave) }
+    ensures fit { IfOk result (λ fit. IsTrue fit
+        → engine.new.wave ≡ with_workers engine.old.wave (map worker_line workers.now)) }
+{
+    if touched.any {
+        return fit_all(alloc, engine, workers);
+    }
+    let listed = in_order(alloc, &touched.workers, started)?;
+    fit_each(alloc, engine, workers, &listed)
+}
+
+// The same of each worker.
+fn fit_all(alloc: Global, engine: &mut Engine, workers: &[Worker]) -> Result<bool, AllocError>
     requires workers { length workers.now ≡ length engine.old.wave.workers }
     requires within { All (λ worker. worker.taken ≤ worker.slots) workers.now }
     requires most { All (λ line. line.free ≤ MAX_SLOTS) (map worker_line workers.now) }
@@ -272,6 +314,48 @@ fn fit_workers(alloc: Global, engine: &mut Engine, workers: &[Worker]) -> Result
         }
     }
     Ok(true)
+}
+
+// The same of each listed worker: the others keep their lines.
+fn fit_each(
+    alloc: Global,
+    engine: &mut Engine,
+    workers: &[Worker],
+    listed: &[WorkerNo],
+) -> Result<bool, AllocError>
+    requires workers { length workers.now ≡ length engine.old.wave.workers }
+    requires within { All (λ worker. worker.taken ≤ worker.slots) workers.now }
+    requires most { All (λ line. line.free ≤ MAX_SLOTS) (map worker_line workers.now) }
+    ensures only { OnOk result (HasOtherLines engine.old.wave engine.new.wave) }
+    ensures fit { IfOk result (λ fit. IsTrue fit
+        → AreFitAmong engine.old.wave engine.new.wave listed.now (map worker_line workers.now)) }
+{
+    for i in 0..listed.len() {
+        let worker = listed[i];
+        if worker.index() < engine.problem().workers() {
+            let line = line_at(workers, worker.index());
+            if !engine.fit_worker(alloc, worker, line)? {
+                return Ok(false);
+            }
+        }
+    }
+    Ok(true)
+}
+
+// The workers of both lists, by rising number. Of equally good plans the engine comes to one or the other by
+// the order in which slots come back: here it is the order in which `fit_all` comes to the workers.
+fn in_order(
+    alloc: Global,
+    one: &[WorkerNo],
+    other: &[WorkerNo],
+) -> Result<Vec<WorkerNo>, AllocError>
+    ensures { IfOk result (λ both. IsPermutation (one.now ++ other.now) both.items) }
+{
+    let mut both = Vec::new(alloc);
+    both.extend_from_slice(one)?;
+    both.extend_from_slice(other)?;
+    both.sort_unstable();
+    Ok(both)
 }
 
 /// The line of the worker at this place.

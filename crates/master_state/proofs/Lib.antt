@@ -23,7 +23,6 @@ pub mod Steps
 pub mod Histories
 pub mod Problems
 pub mod Keeping
-pub mod Loops
 pub mod AllHeads
 pub mod Promises
 pub mod Headline

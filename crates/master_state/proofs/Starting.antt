@@ -1,5 +1,5 @@
 -- Starts keep a state tidy: backups, reduce attempts, and the starts of a wave.
-use Rattle.std.proofs.Common.{◌≡◌, ◌≢◌, ℕ, zero, suc, ◌+◌, ◌<◌, ◌≤◌, ◌==◌, ◌⊎◌, List, [], ◌∷◌, ◌++◌, length}
+use Rattle.std.proofs.Common.{[], ◌≡◌, ◌≢◌, ℕ, zero, suc, ◌+◌, ◌<◌, ◌≤◌, ◌==◌, ◌⊎◌, List, ◌∷◌, ◌++◌, length}
 use Rattle.std.proofs.Common.{cond, true, not, Some, None, refl, sym, ap, ◌∙◌, add-one, arith}
 use Rattle.std.proofs.Common.{inl, inr, All, AllPairs, subst}
 use Rattle.std.specs.List.{list_any, list_all}
@@ -83,14 +83,6 @@ attempts-with_next : (next : Attempt) (w : ℕ) (split : SplitState) → TakesOn
 unfolding TakesOne
 attempts-with_next next w split (inl pending) = rw pending refl
 attempts-with_next next w split (inr one) = rw one.1 refl
-
-abbrev doer : Attempt → SplitState → Attempt
-doer d (Running a (Some b)) = a
-doer d split = d
-
-abbrev second : Attempt → SplitState → Attempt
-second d (Running a (Some b)) = b
-second d split = d
 
 two_apart : (next : Attempt) (w : ℕ) (split : SplitState) → TakesOne w split → next.worker ≡ w →
     (a b : Attempt) →

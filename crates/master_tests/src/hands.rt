@@ -2,7 +2,9 @@ ghost use Rattle.std.specs.Prelude.{◌≡◌, ◌<◌, [], length, vec_len, IsT
 ghost use Rattle.hand_ledger.specs.Settling.{all_calls};
 
 use crate::jobs::SplitRow;
-use crate::shared_masters::{AMPLE, hand_of, list_of, master_of, sweep_all, wave_of};
+use crate::shared_masters::{
+    AMPLE, Setting, Test, hand_of, list_of, master_of, share, sweep_all, wave_of,
+};
 use master_core::Master;
 use master_state::{Answer, Limits, Why};
 use shared_master::{Closed, Hand, HandError, OfJob, SharedMaster, Torn, settle};
@@ -20,13 +22,11 @@ const TWO_SPLITS: [SplitRow<'static>; 2] = [(10, &[0], "one two"), (20, &[0], "t
 
 // The place of a sweep with this count for each worker.
 fn sweep_place<L: Ledger + OfJob, R: Wait>(
-    rt: &R,
-    alloc: Global,
-    shared: &SharedMaster<L>,
+    on: &Setting<'_, L, R>,
     hand: &mut Hand<L>,
     count: u64,
 ) -> Option<u32> {
-    match sweep_all(rt, alloc, shared, hand, count)? {
+    match sweep_all(on, hand, count)? {
         Answer::Accepted(place, ()) => Some(place),
         Answer::Ignored(_, ()) => None,
     }
@@ -35,18 +35,16 @@ fn sweep_place<L: Ledger + OfJob, R: Wait>(
 // Calls of a thread, of which each is accepted: every fourth is a wave, and the others are sweeps, which
 // their counts tell apart. The place of the first.
 fn call_often<L: Ledger + OfJob, R: Wait>(
-    rt: &R,
-    alloc: Global,
-    shared: &SharedMaster<L>,
+    on: &Setting<'_, L, R>,
     hand: &mut Hand<L>,
     calls: Range<u64>,
 ) -> Option<u32> {
     let mut first = None;
     for call in calls {
         let place = if call % 4 == 0 {
-            wave_of(rt, alloc, shared, hand)?.place
+            wave_of(on, hand)?.place
         } else {
-            sweep_place(rt, alloc, shared, hand, call)?
+            sweep_place(on, hand, call)?
         };
         first = first.or(Some(place));
     }
@@ -56,38 +54,29 @@ fn call_often<L: Ledger + OfJob, R: Wait>(
 // Two threads of a hundred accepted calls each, on a master with room for no more: the second one's first
 // place.
 fn call_in_two_threads<L: Ledger + OfJob + Send + Sync, R: Threads + Wait + Abort + Sync>(
-    rt: &R,
-    alloc: Global,
-    shared: &SharedMaster<L>,
+    on: &Setting<'_, L, R>,
     one: &mut Hand<L>,
     two: &mut Hand<L>,
 ) -> u32 {
     let (first, second) = thread::join(
-        rt,
-        || call_often(rt, alloc, shared, one, 1000..1100),
-        || call_often(rt, alloc, shared, two, 2000..2100),
+        on.rt,
+        || call_often(on, one, 1000..1100),
+        || call_often(on, two, 2000..2100),
     );
-    assert!(rt; first.is_some());
-    second.expect(rt, "a call was ignored")
+    assert!(on.rt; first.is_some());
+    second.expect(on.rt, "a call was ignored")
 }
 
-fn is_full<L: Ledger + OfJob, R: Wait>(
-    rt: &R,
-    alloc: Global,
-    shared: &SharedMaster<L>,
-    hand: &mut Hand<L>,
-) -> bool {
-    sweep_all(rt, alloc, shared, hand, 0) == Some(Answer::Ignored(Why::HistoryFull, ()))
+fn is_full<L: Ledger + OfJob, R: Wait>(on: &Setting<'_, L, R>, hand: &mut Hand<L>) -> bool {
+    sweep_all(on, hand, 0) == Some(Answer::Ignored(Why::HistoryFull, ()))
 }
 
 fn is_full_for_both<L: Ledger + OfJob, R: Wait>(
-    rt: &R,
-    alloc: Global,
-    shared: &SharedMaster<L>,
+    on: &Setting<'_, L, R>,
     one: &mut Hand<L>,
     two: &mut Hand<L>,
 ) -> bool {
-    is_full(rt, alloc, shared, one) && is_full(rt, alloc, shared, two)
+    is_full(on, one) && is_full(on, two)
 }
 
 // The notes of a hand that had room when the master had none.
@@ -166,14 +155,15 @@ fn settle_two_hands<L: Ledger + OfJob + Send + Sync, R: Threads + Wait + Abort +
     requires job { (master.history ≡ []) × (master.setup ≡ L.setup) }
 {
     let shared: SharedMaster<L> = SharedMaster::new(blank, master);
-    let mut one = hand_of(rt, alloc, &shared);
-    let mut two = hand_of(rt, alloc, &shared);
-    let lowest = call_in_two_threads(rt, alloc, &shared, &mut one, &mut two);
-    assert!(rt; is_full_for_both(rt, alloc, &shared, &mut one, &mut two));
-    assert!(rt; is_told_full(&one) && is_told_full(&two));
-    let alone = list_of(alloc, one).expect(rt, "no memory");
-    let counts = settle_one_and_both(rt, shared.into_master(), alone, two, lowest);
-    assert_eq!(rt; counts, (200, 150));
+    let on = Setting { rt, alloc, shared };
+    let mut one = hand_of(&on);
+    let mut two = hand_of(&on);
+    let lowest = call_in_two_threads(&on, &mut one, &mut two);
+    assert!(on.rt; is_full_for_both(&on, &mut one, &mut two));
+    assert!(on.rt; is_told_full(&one) && is_told_full(&two));
+    let alone = list_of(on.alloc, one).expect(on.rt, "no memory");
+    let counts = settle_one_and_both(on.rt, on.shared.into_master(), alone, two, lowest);
+    assert_eq!(on.rt; counts, (200, 150));
 }
 
 #[test]
@@ -189,57 +179,47 @@ const NO_ROOM: Limits = Limits {
 };
 
 // All hands that a master has.
-fn make_all_hands<L: Ledger + OfJob, R: Wait + Abort>(
-    rt: &R,
-    alloc: Global,
-    shared: &SharedMaster<L>,
-) -> Vec<Hand<L>> {
-    let mut hands = Vec::new(alloc);
+fn make_all_hands<L: Ledger + OfJob, R: Wait + Abort>(on: &Setting<'_, L, R>) -> Vec<Hand<L>> {
+    let mut hands = Vec::new(on.alloc);
     for made in 0..4095u32 {
-        let Ok(hand) = shared.hand(rt, alloc, NO_ROOM) else {
-            panic!(rt; "no hand after {made}")
+        let Ok(hand) = on.shared.hand(on.rt, on.alloc, NO_ROOM) else {
+            panic!(on.rt; "no hand after {made}")
         };
-        hands.push(hand).expect(rt, "no memory");
+        hands.push(hand).expect(on.rt, "no memory");
     }
     hands
 }
 
 // Why there is no other. That there is none the law says, and no test.
 fn why_no_other<L: Ledger + OfJob, R: Wait + Abort>(
-    rt: &R,
-    alloc: Global,
-    shared: &SharedMaster<L>,
+    on: &Setting<'_, L, R>,
     mut hands: Vec<Hand<L>>,
 ) -> HandError
     requires { (L.parts ≡ 4096) × (vec_len hands ≡ 4095) }
 {
-    match shared.hand(rt, alloc, NO_ROOM) {
+    match on.shared.hand(on.rt, on.alloc, NO_ROOM) {
         Err(error) => error,
         Ok(hand) => {
-            hands.push(hand).expect(rt, "no memory");
-            shared.are_few(rt, &mut hands);
+            hands.push(hand).expect(on.rt, "no memory");
+            on.shared.are_few(on.rt, &mut hands);
             unreachable!()
         }
     }
 }
 
-fn ask_for_too_many<L: Ledger + OfJob, R: Wait + Abort>(
-    rt: &R,
-    alloc: Global,
-    blank: Blank,
-    master: Master,
-)
-    requires ledger { (blank.name ≡ L.name) × (blank.parts ≡ L.parts) × (blank.parts ≡ 4096) }
-    requires job { (master.history ≡ []) × (master.setup ≡ L.setup) }
-{
-    let shared: SharedMaster<L> = SharedMaster::new(blank, master);
-    let hands = make_all_hands(rt, alloc, &shared);
-    assert!(rt; hands.len() == 4095);
-    assert_eq!(rt; why_no_other(rt, alloc, &shared, hands), HandError::Limit);
+#[derive(Drop)]
+struct AskForTooMany;
+
+impl Test for AskForTooMany {
+    fn run<L: Ledger + OfJob, R: Wait + Abort>(&self, on: Setting<'_, L, R>) {
+        let hands = make_all_hands(&on);
+        assert!(on.rt; hands.len() == 4095);
+        assert_eq!(on.rt; why_no_other(&on, hands), HandError::Limit);
+    }
 }
 
 #[test]
 fn the_hands_of_a_master_are_few(rt: HostRuntime) {
     let master = master_of(&rt, rt.alloc(), (1, 0), &[], NO_ROOM);
-    ask_for_too_many::<Brand, _>(&rt, rt.alloc(), Blank::new(4096), master)
+    share(&rt, rt.alloc(), master, &AskForTooMany)
 }

@@ -69,8 +69,8 @@ fn drawn_call(seed: &mut u64, attempts: u32) -> Call {
     }
 }
 
-// That a wave is certified and starts as many splits, at the same cost, as a plan over the direct network; and
-// that the starts alone, told of a job with the same history, are the same.
+// That a wave is certified and starts as many splits, at the same cost, as a plan over the direct network;
+// and that the starts alone, told of a job with the same history, are the same.
 fn assert_best(rt: &impl Abort, alloc: Global, job: &mut Job, twin: &mut Job) {
     let problem = job.master.problem(alloc).expect(rt, "no problem");
     let new = plan_with(alloc, &problem, NetworkKind::Direct).expect(rt, "no plan");

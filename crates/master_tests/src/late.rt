@@ -1,18 +1,16 @@
 //! Results that come late, twice, from the dead, or of another text.
-ghost use Rattle.std.specs.Prelude.{◌≡◌, []};
 
 use crate::jobs::{AMPLE, Call, Row, Shape, SplitRow, answers, last_glance, played};
 use crate::shared_masters;
-use crate::shared_masters::{hand_of, join, list_of, made_of, master_of, settles, wave_of};
-use master_core::Master;
+use crate::shared_masters::{
+    Setting, Test, hand_of, join, list_of, made_of, master_of, settles, share, wave_of,
+};
 use master_state::{Answer, Why};
 use node_ids::{AttemptNo, SplitNo, WorkerNo};
-use shared_master::{Hand, OfJob, SharedMaster};
-use std::alloc::Global;
-use std::marker::Brand;
+use shared_master::{Hand, OfJob};
 use std::process::Abort;
 use std::sync::Wait;
-use std::sync::ledger::{Blank, Ledger};
+use std::sync::ledger::Ledger;
 
 // Two workers with a slot each, of which the first holds the one split.
 const ONE_SPLIT: [SplitRow<'static>; 1] = [(5, &[0], "one")];
@@ -78,18 +76,19 @@ fn late_results_are_ignored(rt: HostRuntime) {
 
 // A result of these words is handed in: the answer, and whether it came back.
 fn hand_in<L: Ledger + OfJob, R: Wait + Abort>(
-    rt: &R,
-    alloc: Global,
-    shared: &SharedMaster<L>,
+    on: &Setting<'_, L, R>,
     hand: &mut Hand<L>,
     attempt: u32,
     words: &str,
 ) -> (Answer, bool) {
-    let made = made_of(rt, alloc, SplitNo::new(0), words);
-    match shared.map_done(rt, hand, AttemptNo::new(attempt), made) {
+    let made = made_of(on.rt, on.alloc, SplitNo::new(0), words);
+    match on
+        .shared
+        .map_done(on.rt, hand, AttemptNo::new(attempt), made)
+    {
         Answer::Accepted(place, ()) => (Answer::Accepted(place, ()), false),
         Answer::Ignored(why, back) => {
-            let again = made_of(rt, alloc, SplitNo::new(0), words);
+            let again = made_of(on.rt, on.alloc, SplitNo::new(0), words);
             let is_same = back.text().is_same(again.text());
             (Answer::Ignored(why, ()), is_same)
         }
@@ -98,90 +97,72 @@ fn hand_in<L: Ledger + OfJob, R: Wait + Abort>(
 
 // What the call of a hand is answered.
 fn answer_by_hand<L: Ledger + OfJob, R: Wait + Abort>(
-    rt: &R,
-    alloc: Global,
-    shared: &SharedMaster<L>,
+    on: &Setting<'_, L, R>,
     hand: &mut Hand<L>,
     call: Call,
 ) -> Answer {
     match call {
-        Call::Wave => Answer::Accepted(
-            wave_of(rt, alloc, shared, hand).expect(rt, "no wave").place,
-            (),
-        ),
-        Call::Done(attempt) => hand_in(rt, alloc, shared, hand, attempt, "one").0,
-        Call::Fail(attempt) => shared.map_failed(rt, hand, AttemptNo::new(attempt)),
-        Call::Withdraw(attempt) => shared.withdraw(rt, hand, AttemptNo::new(attempt)),
+        Call::Wave => Answer::Accepted(wave_of(on, hand).expect(on.rt, "no wave").place, ()),
+        Call::Done(attempt) => hand_in(on, hand, attempt, "one").0,
+        Call::Fail(attempt) => on.shared.map_failed(on.rt, hand, AttemptNo::new(attempt)),
+        Call::Withdraw(attempt) => on.shared.withdraw(on.rt, hand, AttemptNo::new(attempt)),
         Call::Die(worker) => {
-            assert!(rt; (worker as usize) < shared.sizes().workers);
-            shared.die(rt, hand, WorkerNo::new(worker))
+            assert!(on.rt; (worker as usize) < on.shared.sizes().workers);
+            on.shared.die(on.rt, hand, WorkerNo::new(worker))
         }
         Call::Join(worker, split) => {
             // (the one split, where it is held)
             let splits = [SplitNo::new(0)];
             let held: &[SplitNo] = if split.is_some() { &splits } else { &[] };
-            join(rt, alloc, shared, hand, WorkerNo::new(worker), held)
+            join(on, hand, WorkerNo::new(worker), held)
         }
-        _ => panic!(rt; "{call:?}"),
+        _ => panic!(on.rt; "{call:?}"),
     }
 }
 
-fn late_by_hand<L: Ledger + OfJob, R: Wait + Abort>(
-    rt: &R,
-    alloc: Global,
-    shared: &SharedMaster<L>,
-    hand: &mut Hand<L>,
-) {
+fn late_by_hand<L: Ledger + OfJob, R: Wait + Abort>(on: &Setting<'_, L, R>, hand: &mut Hand<L>) {
     for (call, want) in &LATE {
-        let told = answer_by_hand(rt, alloc, shared, hand, *call);
-        assert_eq!(rt; told, *want, "{call:?}");
+        let told = answer_by_hand(on, hand, *call);
+        assert_eq!(on.rt; told, *want, "{call:?}");
     }
 }
 
 // A result of a text in which one byte differs comes back, and the right one is accepted.
-fn lie_by_hand<L: Ledger + OfJob, R: Wait + Abort>(
-    rt: &R,
-    alloc: Global,
-    shared: &SharedMaster<L>,
-    hand: &mut Hand<L>,
-) {
-    assert!(rt; wave_of(rt, alloc, shared, hand).is_some());
-    let lie = hand_in(rt, alloc, shared, hand, 1, "onf");
-    let truth = hand_in(rt, alloc, shared, hand, 1, "one");
+fn lie_by_hand<L: Ledger + OfJob, R: Wait + Abort>(on: &Setting<'_, L, R>, hand: &mut Hand<L>) {
+    assert!(on.rt; wave_of(on, hand).is_some());
+    let lie = hand_in(on, hand, 1, "onf");
+    let truth = hand_in(on, hand, 1, "one");
     let wrong = Answer::Ignored(Why::WrongInput, ());
-    assert_eq!(rt; (lie, truth.0), ((wrong, true), Answer::Accepted(2, ())));
+    assert_eq!(on.rt; (lie, truth.0), ((wrong, true), Answer::Accepted(2, ())));
 }
 
 // Both are calls of a hand, which settles alone.
-fn settle_by_hand<L: Ledger + OfJob, R: Wait + Abort>(
-    rt: &R,
-    alloc: Global,
-    blank: Blank,
-    master: Master,
+#[derive(Drop)]
+struct SettleByHand {
     lies: bool,
-)
-    requires ledger { (blank.name ≡ L.name) × (blank.parts ≡ L.parts) × (blank.parts ≡ 4096) }
-    requires job { (master.history ≡ []) × (master.setup ≡ L.setup) }
-{
-    let shared: SharedMaster<L> = SharedMaster::new(blank, master);
-    let mut hand = hand_of(rt, alloc, &shared);
-    if lies {
-        lie_by_hand(rt, alloc, &shared, &mut hand);
-    } else {
-        late_by_hand(rt, alloc, &shared, &mut hand);
+}
+
+impl Test for SettleByHand {
+    fn run<L: Ledger + OfJob, R: Wait + Abort>(&self, on: Setting<'_, L, R>) {
+        let mut hand = hand_of(&on);
+        if self.lies {
+            lie_by_hand(&on, &mut hand);
+        } else {
+            late_by_hand(&on, &mut hand);
+        }
+        let hands = list_of(on.alloc, hand).expect(on.rt, "no list");
+        assert!(on.rt; settles(on.shared, hands));
     }
-    let hands = list_of(alloc, hand).expect(rt, "no list");
-    assert!(rt; settles(shared, hands));
 }
 
 #[test]
 fn late_results_of_a_hand_are_ignored(rt: HostRuntime) {
     let master = master_of(&rt, rt.alloc(), (2, 0), &ONE_SPLIT, shared_masters::AMPLE);
-    settle_by_hand::<Brand, _>(&rt, rt.alloc(), Blank::new(4096), master, false)
+    share(&rt, rt.alloc(), master, &SettleByHand { lies: false })
 }
 
 #[test]
 fn a_lie_of_a_hand_comes_back(rt: HostRuntime) {
     let master = master_of(&rt, rt.alloc(), (2, 0), &ONE_SPLIT, shared_masters::AMPLE);
-    settle_by_hand::<Brand, _>(&rt, rt.alloc(), Blank::new(4096), master, true)
+    share(&rt, rt.alloc(), master, &SettleByHand { lies: true })
 }

@@ -3,7 +3,7 @@ ghost use Rattle.std.specs.Prelude.{◌≡◌, ◌<◌, []};
 
 use crate::jobs::SplitRow;
 use crate::shared_jobs::reduce_one;
-use crate::shared_masters::{join, made_of, master_of, settles, sweep_all, wave_of};
+use crate::shared_masters::{Setting, join, made_of, master_of, settles, sweep_all, wave_of};
 use master_core::Master;
 use master_state::Limits;
 use node_ids::{AttemptNo, SplitNo, WorkerNo};
@@ -40,60 +40,59 @@ pub fn next(seed: u64) -> u64 {
 
 // A call of a kind, of a split and a worker or of an attempt.
 fn call_of<L: Ledger + OfJob, R: Wait>(
-    rt: &R,
-    shared: &SharedMaster<L>,
+    on: &Setting<'_, L, R>,
     hand: &mut Hand<L>,
     kind: u64,
     attempt: AttemptNo,
     split: SplitNo,
     worker: WorkerNo,
 )
-    requires split { split < shared.now.splits }
-    requires worker { worker < shared.now.workers }
+    requires split { split < on.now.shared.splits }
+    requires worker { worker < on.now.shared.workers }
 {
     match kind {
         0 => {
-            shared.add(rt, hand, split, worker);
+            on.shared.add(on.rt, hand, split, worker);
         }
         1 => {
-            shared.lose(rt, hand, split, worker);
+            on.shared.lose(on.rt, hand, split, worker);
         }
         2 => {
-            shared.backup(rt, hand, split, worker);
+            on.shared.backup(on.rt, hand, split, worker);
         }
         3 => {
-            shared.die(rt, hand, worker);
+            on.shared.die(on.rt, hand, worker);
         }
         4 => {
-            shared.withdraw(rt, hand, attempt);
+            on.shared.withdraw(on.rt, hand, attempt);
         }
         5 => {
-            shared.map_failed(rt, hand, attempt);
+            on.shared.map_failed(on.rt, hand, attempt);
         }
         _ => {
-            shared.part_failed(rt, hand, attempt);
+            on.shared.part_failed(on.rt, hand, attempt);
         }
     }
 }
 
 // The call that a number draws among the calls that the master answers without memory.
 fn call_without_memory<L: Ledger + OfJob, R: Wait + Abort>(
-    rt: &R,
-    alloc: Global,
-    shared: &SharedMaster<L>,
+    on: &Setting<'_, L, R>,
     hand: &mut Hand<L>,
     draw: u64,
 ) {
     let kind = draw % 16;
     let (split, attempt) = split_and_attempt(draw);
     let worker = WorkerNo::new((draw / 32 % 3) as u16);
-    assert!(rt; split.index() < shared.sizes().splits && worker.index() < shared.sizes().workers);
+    assert!(on.rt;
+        split.index() < on.shared.sizes().splits && worker.index() < on.shared.sizes().workers
+    );
     match kind {
-        0..=3 => call_of(rt, shared, hand, kind, attempt, split, worker),
+        0..=3 => call_of(on, hand, kind, attempt, split, worker),
         4..=5 => {
-            join(rt, alloc, shared, hand, worker, &[]);
+            join(on, hand, worker, &[]);
         }
-        _ => call_of(rt, shared, hand, 4 + kind % 3, attempt, split, worker),
+        _ => call_of(on, hand, 4 + kind % 3, attempt, split, worker),
     }
 }
 
@@ -105,39 +104,32 @@ fn split_and_attempt(draw: u64) -> (SplitNo, AttemptNo) {
 }
 
 // The call that a player's number draws.
-fn call<L: Ledger + OfJob, R: Wait + Abort>(
-    rt: &R,
-    alloc: Global,
-    shared: &SharedMaster<L>,
-    player: &mut Player<L>,
-) {
+fn call<L: Ledger + OfJob, R: Wait + Abort>(on: &Setting<'_, L, R>, player: &mut Player<L>) {
     let (draw, hand) = (player.seed >> 33, &mut player.hand);
     match draw % 16 {
-        0..=8 => call_without_memory(rt, alloc, shared, hand, draw),
+        0..=8 => call_without_memory(on, hand, draw),
         9 => {
-            sweep_all(rt, alloc, shared, hand, draw / 16);
+            sweep_all(on, hand, draw / 16);
         }
         10..=11 => {
-            reduce_one(rt, alloc, shared, hand);
+            reduce_one(on, hand);
         }
         12..=13 => {
             let (split, attempt) = split_and_attempt(draw);
-            let made = made_of(rt, alloc, split, "one two");
-            shared.map_done(rt, hand, attempt, made);
+            let made = made_of(on.rt, on.alloc, split, "one two");
+            on.shared.map_done(on.rt, hand, attempt, made);
         }
-        _ => assert!(rt; wave_of(rt, alloc, shared, hand).is_some()),
+        _ => assert!(on.rt; wave_of(on, hand).is_some()),
     }
 }
 
 // Eight calls of a thread.
 fn play<L: Ledger + OfJob, R: Wait + Abort>(
-    rt: &R,
-    alloc: Global,
-    shared: &SharedMaster<L>,
+    on: &Setting<'_, L, R>,
     mut player: Player<L>,
 ) -> Hand<L> {
     for _ in 0..8u32 {
-        call(rt, alloc, shared, &mut player);
+        call(on, &mut player);
         player.seed = next(player.seed);
     }
     player.hand
@@ -145,16 +137,19 @@ fn play<L: Ledger + OfJob, R: Wait + Abort>(
 
 // Four hands, each with a number of its own.
 fn players_of<L: Ledger + OfJob, R: Wait + Abort>(
-    rt: &R,
-    alloc: Global,
-    shared: &SharedMaster<L>,
+    on: &Setting<'_, L, R>,
     seed: u64,
 ) -> Vec<Player<L>> {
-    let mut players = Vec::new(alloc);
+    let mut players = Vec::new(on.alloc);
     let mut seed = next(seed);
     for _ in 0..4u32 {
-        let hand = shared.hand(rt, alloc, ROOM).expect(rt, "no hand");
-        players.push(Player { hand, seed }).expect(rt, "no memory");
+        let hand = on
+            .shared
+            .hand(on.rt, on.alloc, ROOM)
+            .expect(on.rt, "no hand");
+        players
+            .push(Player { hand, seed })
+            .expect(on.rt, "no memory");
         seed = next(next(seed));
     }
     players
@@ -172,12 +167,13 @@ fn run<L: Ledger + OfJob + Send + Sync, R: Threads + Wait + Abort + Sync>(
     requires job { (master.history ≡ []) × (master.setup ≡ L.setup) }
 {
     let shared: SharedMaster<L> = SharedMaster::new(blank, master);
-    let players = players_of(rt, alloc, &shared, seed);
-    let hands = thread::map_vec(rt, players, &|player| play(rt, alloc, &shared, player)).expect(
-        rt,
+    let on = Setting { rt, alloc, shared };
+    let players = players_of(&on, seed);
+    let hands = thread::map_vec(on.rt, players, &|player| play(&on, player)).expect(
+        on.rt,
         "no memory",
     );
-    assert!(rt; settles(shared, hands), "run {seed}");
+    assert!(on.rt; settles(on.shared, hands), "run {seed}");
 }
 
 #[test]

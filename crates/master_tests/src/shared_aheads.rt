@@ -1,16 +1,12 @@
 //! Plans ahead of a shared master.
-ghost use Rattle.std.specs.Prelude.{◌≡◌, []};
 
 use crate::jobs::{AMPLE, SplitRow};
-use crate::shared_masters::{hand_of, list_of, master_of, settles};
-use master_core::Master;
+use crate::shared_masters::{Setting, Test, hand_of, list_of, master_of, settles, share};
 use node_ids::AttemptNo;
-use shared_master::{Hand, OfJob, SharedMaster, WaveError};
-use std::alloc::Global;
-use std::marker::Brand;
+use shared_master::{Hand, OfJob, WaveError};
 use std::process::Abort;
 use std::sync::Wait;
-use std::sync::ledger::{Blank, Ledger};
+use std::sync::ledger::Ledger;
 
 // The first of two workers in a rack, each with a slot, holds both splits.
 const SPLITS: [SplitRow<'static>; 2] = [(20, &[0], "one"), (10, &[0], "two")];
@@ -19,15 +15,10 @@ const SPLITS: [SplitRow<'static>; 2] = [(20, &[0], "one"), (10, &[0], "two")];
 type Told = Result<Option<(u32, usize, usize, u64)>, WaveError>;
 
 // Plans ahead onto two places of the first worker.
-fn ahead<L: Ledger + OfJob, R: Wait + Abort>(
-    rt: &R,
-    alloc: Global,
-    shared: &SharedMaster<L>,
-    hand: &mut Hand<L>,
-) -> Told {
+fn ahead<L: Ledger + OfJob, R: Wait + Abort>(on: &Setting<'_, L, R>, hand: &mut Hand<L>) -> Told {
     let places: [u64; 2] = [2, 0];
-    assert!(rt; places.iter().all(|n| *n <= 255));
-    match shared.start_ahead(rt, alloc, hand, &places)? {
+    assert!(on.rt; places.iter().all(|n| *n <= 255));
+    match on.shared.start_ahead(on.rt, on.alloc, hand, &places)? {
         Some(made) => {
             let wave = made.wave;
             Ok(Some((wave.place, wave.first.index(), made.starts.len(), wave.cost)))
@@ -36,33 +27,28 @@ fn ahead<L: Ledger + OfJob, R: Wait + Abort>(
     }
 }
 
-// Its plans, of which the second comes right after the first; and whether the hand settles.
-fn plans_of_a_hand<L: Ledger + OfJob, R: Wait + Abort>(
-    rt: &R,
-    alloc: Global,
-    blank: Blank,
-    master: Master,
-) -> ([Told; 3], bool)
-    requires ledger { (blank.name ≡ L.name) × (blank.parts ≡ L.parts) × (blank.parts ≡ 4096) }
-    requires job { (master.history ≡ []) × (master.setup ≡ L.setup) }
-{
-    let shared: SharedMaster<L> = SharedMaster::new(blank, master);
-    let mut hand = hand_of(rt, alloc, &shared);
-    let first = ahead(rt, alloc, &shared, &mut hand);
-    let second = ahead(rt, alloc, &shared, &mut hand);
-    shared.withdraw(rt, &mut hand, AttemptNo::new(1));
-    let third = ahead(rt, alloc, &shared, &mut hand);
-    let hands = list_of(alloc, hand).expect(rt, "no list");
-    ([first, second, third], settles(shared, hands))
+// Plans of a hand, of which the second comes right after the first. The hand settles.
+#[derive(Drop)]
+struct ThreePlans;
+
+impl Test for ThreePlans {
+    fn run<L: Ledger + OfJob, R: Wait + Abort>(&self, on: Setting<'_, L, R>) {
+        let mut hand = hand_of(&on);
+        let first = ahead(&on, &mut hand);
+        let second = ahead(&on, &mut hand);
+        on.shared.withdraw(on.rt, &mut hand, AttemptNo::new(1));
+        let third = ahead(&on, &mut hand);
+        let hands = list_of(on.alloc, hand).expect(on.rt, "no list");
+        assert_eq!(on.rt;
+            [first, second, third],
+            [Ok(Some((1, 1, 1, 0))), Ok(None), Ok(Some((3, 2, 1, 0)))]
+        );
+        assert!(on.rt; settles(on.shared, hands));
+    }
 }
 
 #[test]
 fn a_plan_ahead_waits_for_an_event(rt: HostRuntime) {
     let master = master_of(&rt, rt.alloc(), (2, 0), &SPLITS, AMPLE);
-    let (plans, settles) = plans_of_a_hand::<Brand, _>(&rt, rt.alloc(), Blank::new(4096), master);
-    assert_eq!(rt;
-        plans,
-        [Ok(Some((1, 1, 1, 0))), Ok(None), Ok(Some((3, 2, 1, 0)))]
-    );
-    assert!(rt; settles);
+    share(&rt, rt.alloc(), master, &ThreePlans)
 }

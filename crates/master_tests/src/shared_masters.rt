@@ -7,8 +7,9 @@ use master_state::{Answer, Limits, Wave};
 use node_ids::{SplitNo, SplitSet, WorkerNo};
 use shared_master::{Hand, OfJob, Settled, SharedMaster, settle};
 use std::alloc::Global;
+use std::marker::Brand;
 use std::process::Abort;
-use std::sync::ledger::Ledger;
+use std::sync::ledger::{Blank, Ledger};
 use std::sync::{Arc, Wait};
 use word_map::{MapResult, map_split};
 use worker_table::DeadList;
@@ -47,18 +48,52 @@ pub fn make_master(
     Master::new(alloc, cluster, limits).ok()
 }
 
-/// What a sweep with this count for each worker is answered, where there is memory for the counts.
-pub fn sweep_all<L: Ledger + OfJob, R: Wait>(
+/// A shared master of which nothing has happened, and what its calls take.
+#[derive(Drop)]
+pub struct Setting<'a, L: Ledger + OfJob, R> {
+    pub rt: &'a R,
+    pub alloc: Global,
+    pub shared: SharedMaster<L>,
+}
+
+/// A test on a shared master.
+pub trait Test {
+    /// Calls it, and asserts what its calls are answered.
+    fn run<L: Ledger + OfJob, R: Wait + Abort>(&self, on: Setting<'_, L, R>)
+        requires parts { L.parts ≡ 4096 };
+}
+
+/// Shares a master, and runs the test on it.
+pub fn share<T: Test, R: Wait + Abort>(rt: &R, alloc: Global, master: Master, test: &T)
+    requires { master.history ≡ [] }
+{
+    share_as::<Brand, T, R>(rt, alloc, Blank::new(4096), master, test)
+}
+
+fn share_as<L: Ledger + OfJob, T: Test, R: Wait + Abort>(
     rt: &R,
     alloc: Global,
-    shared: &SharedMaster<L>,
+    blank: Blank,
+    master: Master,
+    test: &T,
+)
+    requires ledger { (blank.name ≡ L.name) × (blank.parts ≡ L.parts) × (blank.parts ≡ 4096) }
+    requires job { (master.history ≡ []) × (master.setup ≡ L.setup) }
+{
+    let shared: SharedMaster<L> = SharedMaster::new(blank, master);
+    test.run(Setting { rt, alloc, shared })
+}
+
+/// What a sweep with this count for each worker is answered, where there is memory for the counts.
+pub fn sweep_all<L: Ledger + OfJob, R: Wait>(
+    on: &Setting<'_, L, R>,
     hand: &mut Hand<L>,
     count: u64,
 ) -> Option<Answer> {
-    let workers = shared.sizes().workers;
-    let counts = vec![in alloc; count; workers].ok()?;
-    let mut dead = DeadList::with_room(alloc, workers).ok()?;
-    Some(shared.sweep(rt, hand, &counts, &mut dead))
+    let workers = on.shared.sizes().workers;
+    let counts = vec![in on.alloc; count; workers].ok()?;
+    let mut dead = DeadList::with_room(on.alloc, workers).ok()?;
+    Some(on.shared.sweep(on.rt, hand, &counts, &mut dead))
 }
 
 /// Such a master, where there is memory.
@@ -75,12 +110,10 @@ pub fn master_of(
 }
 
 /// A hand with ample room.
-pub fn hand_of<L: Ledger + OfJob, R: Wait + Abort>(
-    rt: &R,
-    alloc: Global,
-    shared: &SharedMaster<L>,
-) -> Hand<L> {
-    shared.hand(rt, alloc, AMPLE).expect(rt, "no hand")
+pub fn hand_of<L: Ledger + OfJob, R: Wait + Abort>(on: &Setting<'_, L, R>) -> Hand<L> {
+    on.shared
+        .hand(on.rt, on.alloc, AMPLE)
+        .expect(on.rt, "no hand")
 }
 
 /// What a split's words make.
@@ -92,18 +125,20 @@ pub fn made_of(rt: &impl Abort, alloc: Global, split: SplitNo, words: &str) -> M
 
 /// A worker comes back with these splits.
 pub fn join<L: Ledger + OfJob, R: Wait + Abort>(
-    rt: &R,
-    alloc: Global,
-    shared: &SharedMaster<L>,
+    on: &Setting<'_, L, R>,
     hand: &mut Hand<L>,
     worker: WorkerNo,
     splits: &[SplitNo],
 ) -> Answer {
-    let set = SplitSet::of(alloc, splits).ok().expect(rt, "no memory");
-    let kept = SplitSet::of(alloc, splits).ok().expect(rt, "no memory");
-    let sizes = shared.sizes();
-    assert!(rt; worker.index() < sizes.workers && set.are_below(sizes.splits));
-    shared.join(rt, hand, worker, set, kept)
+    let set = SplitSet::of(on.alloc, splits)
+        .ok()
+        .expect(on.rt, "no memory");
+    let kept = SplitSet::of(on.alloc, splits)
+        .ok()
+        .expect(on.rt, "no memory");
+    let sizes = on.shared.sizes();
+    assert!(on.rt; worker.index() < sizes.workers && set.are_below(sizes.splits));
+    on.shared.join(on.rt, hand, worker, set, kept)
 }
 
 /// A list of one hand.
@@ -135,11 +170,9 @@ pub fn settles<L: Ledger + OfJob>(shared: SharedMaster<L>, hands: Vec<Hand<L>>) 
 
 /// The wave that was planned and committed, if it was.
 pub fn wave_of<L: Ledger + OfJob, R: Wait>(
-    rt: &R,
-    alloc: Global,
-    shared: &SharedMaster<L>,
+    on: &Setting<'_, L, R>,
     hand: &mut Hand<L>,
 ) -> Option<Wave> {
-    let planned = shared.plan_wave(rt, alloc, hand).ok()?;
+    let planned = on.shared.plan_wave(on.rt, on.alloc, hand).ok()?;
     Some(planned.wave)
 }

@@ -1,7 +1,9 @@
 ghost use Rattle.std.specs.Prelude.{◌≡◌, []};
 
 use crate::jobs::SplitRow;
-use crate::shared_masters::{AMPLE, hand_of, list_of_both, made_of, master_of, settles, wave_of};
+use crate::shared_masters::{
+    AMPLE, Setting, hand_of, list_of_both, made_of, master_of, settles, wave_of,
+};
 use master_core::Master;
 use master_state::{Answer, Start, Wave, Work};
 use node_ids::{AttemptNo, SplitNo, WorkerNo};
@@ -80,63 +82,62 @@ fn is_accepted(answer: Answer) -> bool {
 
 // Worker a gets split s, or loses it. Whether it was accepted.
 fn change_holder<L: Ledger + OfJob, R: Wait + Abort>(
-    rt: &R,
-    shared: &SharedMaster<L>,
+    on: &Setting<'_, L, R>,
     hand: &mut Hand<L>,
     is_new: bool,
 ) -> bool {
     let (a, s) = (WorkerNo::new(0), SplitNo::new(1));
-    assert!(rt; a.index() < shared.sizes().workers && s.index() < shared.sizes().splits);
+    assert!(on.rt; a.index() < on.shared.sizes().workers && s.index() < on.shared.sizes().splits);
     is_accepted(if is_new {
-        shared.add(rt, hand, s, a)
+        on.shared.add(on.rt, hand, s, a)
     } else {
-        shared.lose(rt, hand, s, a)
+        on.shared.lose(on.rt, hand, s, a)
     })
 }
 
 // s loses its holder in the second turn and gets it again in the third. Whether all was accepted.
 fn change_twice<L: Ledger + OfJob, R: Wait + Abort>(
-    rt: &R,
-    shared: &SharedMaster<L>,
+    on: &Setting<'_, L, R>,
     hand: &mut Hand<L>,
     meeting: &Meeting,
 ) -> bool {
-    put(rt, &meeting.called, 1);
-    let is_second = is_reached(rt, &meeting.solved, 2);
-    let is_lost = change_holder(rt, shared, hand, false);
-    put(rt, &meeting.called, 2);
-    let is_third = is_reached(rt, &meeting.solved, 3);
-    let is_added = change_holder(rt, shared, hand, true);
+    put(on.rt, &meeting.called, 1);
+    let is_second = is_reached(on.rt, &meeting.solved, 2);
+    let is_lost = change_holder(on, hand, false);
+    put(on.rt, &meeting.called, 2);
+    let is_third = is_reached(on.rt, &meeting.solved, 3);
+    let is_added = change_holder(on, hand, true);
     is_second & is_lost & is_third & is_added
 }
 
 // In the first turn u is done; where there are three, s changes its holder twice. Whether all was accepted.
 fn call_in_turns<L: Ledger + OfJob, R: Wait + Abort>(
-    rt: &R,
-    shared: &SharedMaster<L>,
+    on: &Setting<'_, L, R>,
     hand: &mut Hand<L>,
     meeting: &Meeting,
     turns: u32,
     made: MapResult,
 ) -> bool {
-    let is_first = is_reached(rt, &meeting.asked, 1);
-    let is_done = is_accepted(shared.map_done(rt, hand, AttemptNo::new(1), made).plain());
-    let is_changed = turns != 3 || change_twice(rt, shared, hand, meeting);
-    put(rt, &meeting.called, 4);
+    let is_first = is_reached(on.rt, &meeting.asked, 1);
+    let is_done = is_accepted(
+        on.shared
+            .map_done(on.rt, hand, AttemptNo::new(1), made)
+            .plain(),
+    );
+    let is_changed = turns != 3 || change_twice(on, hand, meeting);
+    put(on.rt, &meeting.called, 4);
     is_first & is_done & is_changed
 }
 
 // A wave of one hand, with these turns of the other's calls between its solutions, and how often it was
 // solved.
 fn plan_beside<L: Ledger + OfJob + Send + Sync, R: Threads + Wait + Abort + Sync>(
-    rt: &R,
-    alloc: Global,
+    on: &Setting<'_, L, R>,
     turns: u32,
-    shared: &SharedMaster<L>,
     one: &mut Hand<L>,
     two: &mut Hand<L>,
 ) -> (SharedWave, u32) {
-    let made = made_of(rt, alloc, SplitNo::new(0), "one");
+    let made = made_of(on.rt, on.alloc, SplitNo::new(0), "one");
     let meeting = Meeting {
         asked: Mutex::new(0),
         solved: Mutex::new(0),
@@ -144,19 +145,19 @@ fn plan_beside<L: Ledger + OfJob + Send + Sync, R: Threads + Wait + Abort + Sync
         late: Mutex::new(false),
     };
     let (planned, accepted) = thread::join(
-        rt,
+        on.rt,
         || {
             let waits = Waits {
-                rt,
+                rt: on.rt,
                 meeting: &meeting,
             };
-            shared.plan_wave_with(rt, alloc, one, &waits)
+            on.shared.plan_wave_with(on.rt, on.alloc, one, &waits)
         },
-        || call_in_turns(rt, shared, two, &meeting, turns, made),
+        || call_in_turns(on, two, &meeting, turns, made),
     );
-    assert!(rt; accepted && !*meeting.late.lock(rt));
-    let solved = *meeting.solved.lock(rt);
-    (planned.expect(rt, "no wave"), solved)
+    assert!(on.rt; accepted && !*meeting.late.lock(on.rt));
+    let solved = *meeting.solved.lock(on.rt);
+    (planned.expect(on.rt, "no wave"), solved)
 }
 
 // The second attempt, of s on a, which holds it.
@@ -179,18 +180,16 @@ fn expect(rt: &impl Abort, shared: SharedWave, place: u32) {
 
 // With these turns the second wave has this place, and was solved so often.
 fn plan_in_turns<L: Ledger + OfJob + Send + Sync, R: Threads + Wait + Abort + Sync>(
-    rt: &R,
-    alloc: Global,
+    on: &Setting<'_, L, R>,
     (turns, place, solved): (u32, u32, u32),
-    shared: &SharedMaster<L>,
     one: &mut Hand<L>,
     two: &mut Hand<L>,
 ) {
-    assert!(rt; wave_of(rt, alloc, shared, one).is_some());
-    assert!(rt; change_holder(rt, shared, one, true));
-    let (wave, often) = plan_beside(rt, alloc, turns, shared, one, two);
-    expect(rt, wave, place);
-    assert_eq!(rt; often, solved);
+    assert!(on.rt; wave_of(on, one).is_some());
+    assert!(on.rt; change_holder(on, one, true));
+    let (wave, often) = plan_beside(on, turns, one, two);
+    expect(on.rt, wave, place);
+    assert_eq!(on.rt; often, solved);
 }
 
 // So it is, and both hands settle.
@@ -205,11 +204,12 @@ fn wave_in_turns<L: Ledger + OfJob + Send + Sync, R: Threads + Wait + Abort + Sy
     requires job { (master.history ≡ []) × (master.setup ≡ L.setup) }
 {
     let shared: SharedMaster<L> = SharedMaster::new(blank, master);
-    let mut one = hand_of(rt, alloc, &shared);
-    let mut two = hand_of(rt, alloc, &shared);
-    plan_in_turns(rt, alloc, wanted, &shared, &mut one, &mut two);
-    let hands = list_of_both(alloc, one, two).expect(rt, "no memory");
-    assert!(rt; settles(shared, hands));
+    let on = Setting { rt, alloc, shared };
+    let mut one = hand_of(&on);
+    let mut two = hand_of(&on);
+    plan_in_turns(&on, wanted, &mut one, &mut two);
+    let hands = list_of_both(on.alloc, one, two).expect(on.rt, "no memory");
+    assert!(on.rt; settles(on.shared, hands));
 }
 
 #[test]

@@ -31,6 +31,7 @@ use Rattle.master_state.specs.Steps.{problem_of, split_line}
 use Rattle.master_state.specs.Refusals.{has_no_room, is_full}
 use Rattle.master_state.specs.Tidy.{IsStartOf}
 use Rattle.master_state.proofs.Lists.{All-right}
+use Rattle.master_core.specs.Starts.{HasSizesOf}
 use Rattle.hand_ledger.specs.Hands.{HandValue, has_room, last_place, with_call}
 use Rattle.shared_master.specs.declared.waves.SharedWave.{SharedWave}
 use Rattle.shared_master.specs.declared.waves.Solved.{Solved}
@@ -40,7 +41,7 @@ use Rattle.shared_master.specs.declared.waves.WaveError.{WaveError}
 use Rattle.shared_master.specs.declared.waves.WaveError.TheVariants.{HistoryFull, Memory, StrangeHand}
 use Rattle.shared_master.specs.Held.{IsMasterOf}
 use Rattle.shared_master.specs.Steps.{IsOwn}
-use Rattle.shared_master.specs.Waves.{AreKeptAs, AreShared, CommitsAs, FitsSizes, IsAsked, IsKeptWave}
+use Rattle.shared_master.specs.Waves.{AreKeptAs, AreShared, CommitsAs, IsAsked, IsKeptWave}
 use Rattle.shared_master.specs.Waves.{IsMadeOf, IsMapStart}
 use Rattle.shared_master.specs.Waves.{IsNoWaveOf}
 use Rattle.shared_master.specs.Waves.{IsLastWave, IsSharedWave, IsSolved, IsUnasked, IsUncommitted}
@@ -342,7 +343,7 @@ unasked setup job hand Memory after of_job why is = record {
 fits_of : (setup : Setup) (problem : wave.Wave) (plan : Plan) (prices : PriceList) →
     HasOneSize (claim problem plan.starts prices) plan.workers →
     length problem.splits ≡ length setup.cluster.splits →
-    length problem.workers ≡ length setup.cluster.slots → FitsSizes setup plan prices
+    length problem.workers ≡ length setup.cluster.slots → HasSizesOf setup plan prices
 fits_of setup problem plan prices size splits workers = grind arith
 
 -- a solution, or want of memory for it

@@ -3,7 +3,7 @@ use Rattle.std.specs.Prelude.{ℕ, ◌≡◌, ◌+◌, ◌-◌, ◌^◌, ◌<◌
 use Rattle.std.specs.Prelude.{None, Ok, Err, length, drop, vec_capacity, All}
 use Rattle.std.specs.declared.result.Result.{Result}
 use Rattle.wave_problem.specs.Wave.{Wave}
-use Rattle.wave_problem.specs.Assignment.{IsBest, Plan, pairs_of}
+use Rattle.wave_problem.specs.Assignment.{IsBest, pairs_of}
 use Rattle.flow_network.specs.declared.kinds.NetworkKind.TheVariants.{Racks}
 use Rattle.wave_planner.specs.Planned.{IsMadeOver}
 use Rattle.price_certificate.specs.Certificate.{Certifies, IsFirstFailure}
@@ -20,6 +20,7 @@ use Rattle.master_state.specs.States.{Setup}
 use Rattle.master_state.specs.Jobs.{Job, IsCommitted, lacks_room, present}
 use Rattle.master_state.specs.Refusals.{is_full}
 use Rattle.master_state.specs.Steps.{problem_of}
+use Rattle.master_core.specs.Starts.{HasSizesOf}
 use Rattle.hand_ledger.specs.Hands.{HandValue, Kept, has_room, kept, last_place, noted, with_call}
 use Rattle.shared_master.specs.Held.{IsMasterOf}
 use Rattle.shared_master.specs.Steps.{IsOwn}
@@ -40,13 +41,6 @@ why_of StrangeHand = whys.StrangeHand
 -- splits.
 abbrev pub noted_wave : ℕ → HandValue → WaveError → HandValue
 noted_wave splits hand error = noted hand (has_room hand 0 splits) (why_of error)
-
--- a plan and prices are for the splits and workers of the job
-pub record FitsSizes (setup : Setup) (plan : Plan) (prices : PriceList) : Type 0 where
-  pub starts : length plan.starts ≡ length setup.cluster.splits
-  pub workers : plan.workers ≡ length setup.cluster.slots
-  pub split_prices : length prices.splits ≡ length setup.cluster.splits
-  pub worker_prices : length prices.workers ≡ length setup.cluster.slots
 
 -- a place is left for an event, in the hand and in the history
 abbrev pub has_place : Job → HandValue → Bool
@@ -238,7 +232,7 @@ pub record IsSolved (setup : Setup) (solved : Solved) : Type 0 where
   pub of_job : IsMasterOf setup planned
   pub made : IsMadeIn planned solved.planned.plan.starts solved.planned.prices
   pub best : IsBest (problem_of planned.setup planned.state) (pairs_of solved.planned.plan.starts)
-  pub fits : FitsSizes setup solved.planned.plan solved.planned.prices
+  pub fits : HasSizesOf setup solved.planned.plan solved.planned.prices
   pub starts : solved.starts.items ≡ []
   pub room : length (pairs_of solved.planned.plan.starts) ≤ vec_capacity solved.starts
 

@@ -5,10 +5,11 @@ ghost use Rattle.flow_network.specs.declared.kinds.NetworkKind.{NetworkKind};
 ghost use Rattle.wave_planner.specs.Planned.{IsMadeOver};
 ghost use Rattle.wave_problem.specs.Assignment.{IsBest, pairs_of};
 ghost use Rattle.price_certificate.specs.Certificate.{claim, Certifies, HasOneSize};
+ghost use Rattle.master_core.specs.Starts.{HasSizesOf};
 ghost use Rattle.hand_ledger.specs.Hands.{has_room, with_call};
 ghost use Rattle.shared_master.specs.declared.waves.WaveError.{WaveError};
 ghost use Rattle.shared_master.specs.Held.{IsMasterOf};
-ghost use Rattle.shared_master.specs.Waves.{CommitsAs, FitsSizes, has_place, IsAsked, IsLastWave, IsUnasked};
+ghost use Rattle.shared_master.specs.Waves.{CommitsAs, has_place, IsAsked, IsLastWave, IsUnasked};
 ghost use Rattle.shared_master.specs.Waves.{PlansAs, ahead_event, kept_as, noted_wave, wave_event, why_of};
 
 use crate::held::Held;
@@ -152,7 +153,7 @@ impl<L: Ledger + OfJob> Held<L> {
         hand: &mut Hand<L>,
         solved: Solved,
     ) -> Result<SharedWave, Uncommitted>
-        requires sizes { FitsSizes L.setup solved.planned.plan solved.planned.prices }
+        requires sizes { HasSizesOf L.setup solved.planned.plan solved.planned.prices }
         requires starts { solved.starts.items ≡ [] }
         requires room { length (pairs_of solved.planned.plan.starts) ≤ vec_capacity solved.starts }
         ensures old { IsMasterOf L.setup self.old.job }

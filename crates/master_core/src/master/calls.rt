@@ -53,6 +53,7 @@ impl Master {
             part,
             started,
         );
+        self.touched.touch_worker(worker);
         let place = record_event(&mut self.history, Event::ReduceStart(attempt, part, worker));
         let reply = Reply {
             attempt,
@@ -231,7 +232,7 @@ impl Master {
             return Answer::Ignored(Why::HistoryFull, ());
         }
         end_attempt(&mut self.splits, found.split, attempt);
-        self.touched.touch(found.split);
+        self.touched.touch(found.split, found.worker);
         free_slot(&mut self.workers, &mut self.engine, found, end);
         Answer::Accepted(record_event(&mut self.history, end.of_split(attempt)), ())
     }
@@ -246,6 +247,7 @@ impl Master {
         }
         end_part_attempt(&mut self.parts, found.part, attempt);
         self.workers.give_slot(found.worker);
+        self.touched.touch_worker(found.worker);
         Answer::Accepted(record_event(&mut self.history, end.of_part(attempt)), ())
     }
 
@@ -280,9 +282,10 @@ impl Master {
             number: attempt,
             worker: found.worker,
         };
-        give_slots(&mut self.workers, &self.splits[found.split.index()]);
+        let entry = &self.splits[found.split.index()];
+        give_slots(&mut self.workers, entry);
+        self.touched.touch_running(found.split, entry);
         finish_split(&mut self.splits, found.split, winner, made);
-        self.touched.touch(found.split);
         Answer::Accepted(record_event(&mut self.history, Event::MapDone(attempt)), ())
     }
 
@@ -315,6 +318,7 @@ impl Master {
         }
         finish_part(&mut self.parts, found.part, attempt);
         self.workers.give_slot(found.worker);
+        self.touched.touch_worker(found.worker);
         record_result(&mut self.results, made);
         Answer::Accepted(
             record_event(&mut self.history, Event::PartDone(attempt)),
@@ -358,7 +362,7 @@ impl Master {
         }
         let number = record_start(&mut self.starts, Work::Split(split), worker);
         run_attempt(&mut self.splits, split, Attempt { number, worker });
-        self.touched.touch(split);
+        self.touched.touch(split, worker);
         self.workers.take_slot(worker);
         let place = record_event(&mut self.history, Event::Backup(number, split, worker));
         Answer::Accepted(place, number)

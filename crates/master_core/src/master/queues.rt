@@ -23,10 +23,11 @@ use wave_planner::{cost_of, pairs_of};
 use wave_problem::Problem;
 
 impl Master {
-    /// Plans all pending splits onto the workers' queues, as well as can be, and starts the heads: of the splits in
-    /// each queue the first ones, as many as the worker has free slots. A queue has as many places as are asked for
-    /// its worker, and at least the free slots; a worker past the last that is asked about has just these. Where no
-    /// more are asked for, this is a wave. It is tested in the order Memory, HistoryFull.
+    /// Plans all pending splits onto the workers' queues, as well as can be, and starts the heads: of the
+    /// splits in each queue the first ones, as many as the worker has free slots. A queue has as many places
+    /// as are asked for its worker, and at least the free slots; a worker past the last that is asked about
+    /// has just these. Where no more are asked for, this is a wave. It is tested in the order Memory,
+    /// HistoryFull.
     pub fn start_ahead(
         &mut self,
         alloc: Global,

@@ -1,6 +1,6 @@
 //! The waves of a master: what is to be planned, and what starts.
 ghost use Rattle.std.specs.Prelude.{◌≡◌, ◌≢◌, ◌<◌, ◌≤◌, length, false, true, Err, IfErr};
-ghost use Rattle.std.specs.Prelude.{IfOk, OnErr, OnOk};
+ghost use Rattle.std.specs.Prelude.{IfOk, OnErr, OnOk, map};
 ghost use Rattle.wave_problem.specs.declared.TheConstants.{MAX_SPLITS};
 ghost use Rattle.wave_problem.specs.Assignment.{IsBest, pairs_of, total};
 ghost use Rattle.price_certificate.specs.declared.Condition.{Condition};
@@ -9,9 +9,9 @@ ghost use Rattle.certificate_checker.specs.Verdict.{IsCertified};
 ghost use Rattle.flow_network.specs.declared.kinds.NetworkKind.{NetworkKind};
 ghost use Rattle.wave_planner.specs.Planned.{IsMadeOver};
 ghost use Rattle.master_state.specs.Refusals.{has_no_room};
-ghost use Rattle.master_state.specs.Steps.{problem_of};
+ghost use Rattle.master_state.specs.Steps.{problem_of, worker_line};
 ghost use Rattle.master_state.specs.Jobs.{AnswersCommit, IsCommitted, LacksRoomForBest, present};
-ghost use Rattle.master_core.specs.Near.{HasFlags, HasPlaces, IsFlagged, IsNear, IsSettled};
+ghost use Rattle.master_core.specs.Near.{HasFlags, HasLines, HasPlaces, IsFlagged, IsLined, IsNear, IsSettled};
 ghost use Rattle.master_core.specs.Starts.{AreCommitted, ArePlanned, ArePriced, HasSizesOf, HasStarted, HasTotals};
 
 use crate::kept::Kept;
@@ -96,7 +96,8 @@ impl Master {
     }
 
     /// As `start_best`, but it tells the starts alone, by rising split, without the plan and the prices. So it
-    /// takes as long as what has changed since the last wave and what starts, not as there are splits.
+    /// takes as long as what starts and what completions, failures and beats have changed since the last wave,
+    /// not as there are splits. After a death, a join or other holders it looks at all of them once.
     pub fn start_wave(
         &mut self,
         alloc: Global,
@@ -184,6 +185,7 @@ impl Master {
         requires near { IsNear kept self.now.setup.cluster self.now.state.holders
             self.now.state.workers.barred }
         requires flagged { IsFlagged kept touched.now self.now.state.splits }
+        requires lined { IsLined kept touched.now (map worker_line self.now.state.workers.each) }
         ensures present { IfOk result (λ engine. engine.wave ≡ problem_of self.now.setup self.now.state) }
         ensures settled { IfOk result IsSettled }
     {
@@ -205,6 +207,7 @@ impl Master {
         requires near { HasPlaces engine.wave self.now.setup.cluster self.now.state.holders
             self.now.state.workers.barred }
         requires flagged { HasFlags engine.wave touched.now self.now.state.splits }
+        requires lined { HasLines engine.wave touched.now (map worker_line self.now.state.workers.each) }
         ensures present { IfOk result (λ kept. kept.wave ≡ problem_of self.now.setup self.now.state) }
         ensures settled { IfOk result IsSettled }
     {

@@ -11,7 +11,7 @@ invariant_of-self c =
       c.requires.worker,
     ) (sym c.why_not_add.ensures ∙ c.in_default.is) (rw c.record_event.ensures.capacity refl)
     c.record_event.ensures.items c.record_event.ensures.place (rw c.add_holder.ensures refl) refl
-    c.self.invariant.made (c.turn_far.ensures.near _ _ _, c.turn_far.ensures.flagged _ _))
+    c.self.invariant.made (c.turn_far.ensures.near _ _ _, c.turn_far.ensures.flagged _ _, c.turn_far.ensures.lined _ _))
 
 pub returns : goal.returns
 returns c = grind (arith, common_steps)

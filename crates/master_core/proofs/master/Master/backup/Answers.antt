@@ -9,6 +9,7 @@ use Rattle.master_tables.specs.Entries.{entry_with}
 use Rattle.master_core.specs.Inside.{setup_of}
 use Rattle.master_core.proofs.Accepting.{Follows, follows}
 use Rattle.master_core.proofs.Backing.{may_back}
+use Rattle.master_core.proofs.Lining.{lined_updated}
 use Rattle.master_core.proofs.Touching.{flagged_updated}
 use Rattle.master_tables.proofs.Showing.{made_updated, shown-started, start_makes_none}
 use Rattle.master_core.proofs.master.Master.backup.Goals as goal
@@ -43,7 +44,9 @@ after c =
     (start_makes_none one) c.self.invariant.made)) (
       rw c.take_slot.ensures c.self.invariant.near.0,
       rw c.run_attempt.ensures (flagged_updated old.engine old.touched c.touch.new.self (entry_with one) old.splits.items split
-          c.touch.ensures.here c.touch.ensures.before c.self.invariant.near.1),
+          c.touch.ensures.split c.touch.ensures.before c.self.invariant.near.1),
+      rw c.take_slot.ensures (lined_updated old.engine old.touched c.touch.new.self _ old.workers.each c.args.worker
+          c.touch.ensures.worker c.touch.ensures.before c.self.invariant.near.2),
     )
 
 pub invariant_of-self : goal.invariant_of-self

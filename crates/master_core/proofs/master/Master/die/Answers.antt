@@ -11,7 +11,7 @@ invariant_of-self c =
     (sym c.why_not_die.ensures ∙ c.in_default.is) (rw c.record_event.ensures.capacity refl)
     c.record_event.ensures.items c.record_event.ensures.place (c.bury.ensures.died (state_of c.self.inside)
     refl refl refl refl) refl (c.bury.ensures.made (setup_of c.self.inside) c.self.invariant.made)
-    (c.turn_far.ensures.near _ _ _, c.turn_far.ensures.flagged _ _))
+    (c.turn_far.ensures.near _ _ _, c.turn_far.ensures.flagged _ _, c.turn_far.ensures.lined _ _))
 
 pub bury-requires : goal.bury-requires
 bury-requires c = grind (arith, common_steps)

@@ -1,5 +1,6 @@
 use Rattle.std.proofs.Common.{◌∙◌, refl, sym, ap, [], ◌∷◌, ◌++◌, map}
 use Rattle.master_state.specs.declared.events.Event.{Event}
+use Rattle.master_state.specs.Steps.{worker_line}
 use Rattle.master_state.specs.Tests.{is_numbered}
 use Rattle.master_tables.specs.Entries.{entry_without, shown_as}
 use Rattle.master_tables.proofs.Showing.{shown-ended}
@@ -8,6 +9,7 @@ use Rattle.master_core.specs.Inside.{state_of}
 use Rattle.master_core.proofs.Accepting.{Follows, follows, with_tables}
 use Rattle.master_core.proofs.Ended.{bar_fits, made_ended, split_ended, split_known, split_plain, split_runs_in}
 use Rattle.master_core.proofs.Ended.{split_slot}
+use Rattle.master_core.proofs.Lining.{lined_freed}
 use Rattle.master_core.proofs.Touching.{flagged_updated}
 use Rattle.master_core.proofs.master.Master.end_split.Goals as goal
 
@@ -50,8 +52,12 @@ after c =
       c.free_slot.ensures.near old.cluster old.holders c.self.invariant.near.0,
       c.free_slot.ensures.flagged c.touch.new.self (map shown_as c.end_attempt.new.entries.items)
           (rw c.end_attempt.ensures (flagged_updated old.engine old.touched c.touch.new.self (entry_without (is_numbered c.args.attempt))
-          old.splits.items c.args.found.split c.touch.ensures.here c.touch.ensures.before
+          old.splits.items c.args.found.split c.touch.ensures.split c.touch.ensures.before
           c.self.invariant.near.1)),
+      c.free_slot.ensures.lined c.touch.new.self (map worker_line c.free_slot.new.workers.each)
+          (rw c.free_slot.ensures.freed (lined_freed c.args.end old.engine old.touched c.touch.new.self old.workers
+          c.args.found.split c.args.found.worker c.touch.ensures.worker c.touch.ensures.before
+          c.self.invariant.near.2)),
     )
 
 pub invariant_of-self : goal.invariant_of-self

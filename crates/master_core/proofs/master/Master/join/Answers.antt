@@ -10,7 +10,7 @@ invariant_of-self c =
     (sym c.why_not_join.ensures ∙ c.in_default.is) (rw c.record_join.ensures.capacity refl)
     c.record_join.ensures.items c.record_join.ensures.place
     (rw (c.join.ensures, c.add_to_all.ensures, c.of.ensures) refl)
-    refl c.self.invariant.made (c.turn_far.ensures.near _ _ _, c.turn_far.ensures.flagged _ _))
+    refl c.self.invariant.made (c.turn_far.ensures.near _ _ _, c.turn_far.ensures.flagged _ _, c.turn_far.ensures.lined _ _))
 
 pub join-requires : goal.join-requires
 join-requires c = grind (arith, common_steps)

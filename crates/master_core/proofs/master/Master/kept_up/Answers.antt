@@ -11,7 +11,7 @@ use Rattle.master_state.specs.Jobs.{Job}
 use Rattle.master_state.specs.Steps.{problem_of, worker_line}
 use Rattle.master_tables.specs.declared.entries.SplitEntry.{SplitEntry}
 use Rattle.master_tables.specs.Entries.{shown_as}
-use Rattle.master_core.specs.Near.{flags_of, HasFlags, HasPlaces}
+use Rattle.master_core.specs.Near.{flags_of, HasFlags, HasLines, HasPlaces}
 use Rattle.master_core.proofs.Nearness.{few_free, length-flags, lines_in, many_flags, many_lines, turned_is}
 use Rattle.master_core.proofs.master.Master.kept_up.Goals.{After-deref}
 use Rattle.master_core.proofs.master.Master.kept_up.Goals as goal
@@ -69,3 +69,10 @@ kept_up-requires-clause-flagged c =
     (sym c.deref.ensures.value)
     (subst (λ (j : Job). HasFlags c.args.engine.wave c.args.touched.now j.state.splits) (sym c.self.view_is)
     c.requires.flagged)
+
+pub kept_up-requires-clause-lined : goal.kept_up-requires-clause-lined
+kept_up-requires-clause-lined c =
+    subst (λ (workers : List Worker). HasLines c.args.engine.wave c.args.touched.now (map worker_line workers))
+    (sym c.workers.ensures.value)
+    (subst (λ (j : Job). HasLines c.args.engine.wave c.args.touched.now (map worker_line j.state.workers.each))
+    (sym c.self.view_is) c.requires.lined)

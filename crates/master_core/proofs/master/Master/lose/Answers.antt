@@ -12,7 +12,7 @@ invariant_of-self c =
     )
     (sym c.why_not_lose.ensures ∙ c.in_default.is) (rw c.record_event.ensures.capacity refl)
     c.record_event.ensures.items c.record_event.ensures.place (rw c.drop_holder.ensures refl) refl
-    c.self.invariant.made (c.turn_far.ensures.near _ _ _, c.turn_far.ensures.flagged _ _))
+    c.self.invariant.made (c.turn_far.ensures.near _ _ _, c.turn_far.ensures.flagged _ _, c.turn_far.ensures.lined _ _))
 
 pub returns : goal.returns
 returns c = grind (arith, common_steps)

@@ -36,5 +36,5 @@ invariant_of-result c =
       };
       made = made_from setup c.in_ok-splits.splits.items
           (c.in_ok-splits.ensures ∙ ap (map (λ (split : Split). Pending)) c.splits.ensures.value);
-      near = (tt, tt);
+      near = (tt, tt, tt);
     }

@@ -4,6 +4,8 @@ use Rattle.master_state.specs.Refusals.{ReduceStart}
 use Rattle.master_state.specs.Jobs.{Job, IsReply}
 use Rattle.master_core.specs.Inside.{job_of, state_of}
 use Rattle.master_core.proofs.Accepting.{Follows, follows, is_false}
+use Rattle.master_core.proofs.Lining.{lined_updated}
+use Rattle.master_core.proofs.Touching.{flagged_then}
 use Rattle.master_core.proofs.PartStarts.{IsNextIn, entry_of_each, next_in, reduce_started_is}
 use Rattle.master_core.proofs.master.Master.reduce_start.Goals.{In-Some}
 use Rattle.master_core.proofs.master.Master.reduce_start.Goals as goal
@@ -37,6 +39,7 @@ after : (c : goal.After-record_event-place) →
       workers = c.start_part.new.workers;
       parts = c.start_part.new.parts;
       starts = c.start_part.new.starts;
+      touched = c.touch_worker.new.self;
       history = c.record_event-place.new.history;
     }) c.args.self.now ReduceStart c.record_event-place.result
 after c =
@@ -51,7 +54,14 @@ after c =
     c.record_event-place.ensures.place
     (reduce_started_is (state_of c.self.inside) (number_is c) next.part_is next.worker_is
     c.start_part.ensures.taken c.start_part.ensures.running c.start_part.ensures.told) refl
-    c.self.invariant.made (rw c.start_part.ensures.taken c.self.invariant.near)
+    c.self.invariant.made (
+      rw c.start_part.ensures.taken c.self.invariant.near.0,
+      flagged_then c.self.inside.engine c.self.inside.touched c.touch_worker.new.self (state_of c.self.inside).splits
+          c.touch_worker.ensures.before c.self.invariant.near.1,
+      rw c.start_part.ensures.taken (lined_updated c.self.inside.engine c.self.inside.touched c.touch_worker.new.self _
+          c.self.inside.workers.each c.in-Some.next.worker c.touch_worker.ensures.here
+          c.touch_worker.ensures.before c.self.invariant.near.2),
+    )
 
 pub invariant_of-self : goal.invariant_of-self
 invariant_of-self c = (after c).master

@@ -1,4 +1,4 @@
-use Rattle.std.proofs.Common.{◌≡◌, ℕ, List, map, refl, ap, subst, sym, ◌∙◌, arith}
+use Rattle.std.proofs.Common.{ℕ, List, map, refl, ap, subst, sym, ◌∙◌, arith}
 use Rattle.wave_problem.specs.Assignment.{pairs_of}
 use Rattle.master_state.specs.declared.answers.Wave.{Wave}
 use Rattle.master_state.specs.Refusals.{has_no_room}
@@ -7,6 +7,7 @@ use Rattle.master_tables.specs.Starting.{MayStart}
 use Rattle.master_core.specs.declared.master.Master.TheInside.{Inside}
 use Rattle.master_core.specs.Inside.{setup_of, state_of}
 use Rattle.master_core.proofs.Committing.{assigned_may_start}
+use Rattle.master_core.proofs.Lining.{lined_started}
 use Rattle.master_core.proofs.Nearness.{bars_same, near_with_bars}
 use Rattle.master_core.proofs.Queueing.{committed_ahead, queue_assigned, queues_keep, seen_ahead}
 use Rattle.master_core.proofs.Touching.{flagged_started}
@@ -56,8 +57,11 @@ invariant_of-self c =
       near_with_bars c.self.inside.engine c.self.inside.cluster c.self.inside.holders
           (bars_same now pairs started) c.self.invariant.near.0,
       flagged_started c.self.inside.engine c.self.inside.touched c.touch_each.new.self now pairs started
-          (rw (c.deref-2.ensures.value ∙ plan.pairs) at c.touch_each.ensures.here) c.touch_each.ensures.before
+          (rw (c.deref-2.ensures.value ∙ plan.pairs) at c.touch_each.ensures.splits) c.touch_each.ensures.before
           c.self.invariant.near.1,
+      lined_started c.self.inside.engine c.self.inside.touched c.touch_each.new.self now pairs started
+          (rw (c.deref-2.ensures.value ∙ plan.pairs) at c.touch_each.ensures.workers) c.touch_each.ensures.before
+          c.self.invariant.near.2,
     )
 
 pub returns : goal.returns

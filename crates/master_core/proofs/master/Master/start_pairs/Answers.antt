@@ -3,6 +3,7 @@ use Rattle.master_state.specs.declared.answers.Wave.{Wave}
 use Rattle.master_core.specs.declared.master.Master.TheInside.{Inside}
 use Rattle.master_core.specs.Inside.{setup_of, state_of}
 use Rattle.master_core.proofs.Committing.{best_may_start, commits, starts_committed}
+use Rattle.master_core.proofs.Lining.{lined_started}
 use Rattle.master_core.proofs.Nearness.{bars_same, near_with_bars}
 use Rattle.master_core.proofs.Touching.{flagged_started}
 use Rattle.master_core.proofs.master.Master.start_pairs.Goals as goal
@@ -40,7 +41,9 @@ invariant_of-self c =
       near_with_bars c.self.inside.engine c.self.inside.cluster c.self.inside.holders
           (bars_same now pairs started) c.self.invariant.near.0,
       flagged_started c.self.inside.engine c.self.inside.touched c.touch_each.new.self now pairs started
-          c.touch_each.ensures.here c.touch_each.ensures.before c.self.invariant.near.1,
+          c.touch_each.ensures.splits c.touch_each.ensures.before c.self.invariant.near.1,
+      lined_started c.self.inside.engine c.self.inside.touched c.touch_each.new.self now pairs started
+          c.touch_each.ensures.workers c.touch_each.ensures.before c.self.invariant.near.2,
     )
 
 pub returns : goal.returns

@@ -8,6 +8,7 @@ use Rattle.master_state.proofs.Sweeping.{heard_state}
 use Rattle.master_core.specs.Inside.{setup_of, state_of}
 use Rattle.master_core.proofs.Accepting.{Follows, follows}
 use Rattle.master_core.proofs.Burying.{swept_is}
+use Rattle.master_core.proofs.Lining.{lined_swept}
 use Rattle.master_core.proofs.Nearness.{near_swept}
 use Rattle.master_core.proofs.Touching.{flagged_swept}
 use Rattle.master_core.proofs.master.Master.sweep.Goals as goal
@@ -45,6 +46,8 @@ after c =
           c.turn_far_by.ensures.near c.self.invariant.near.0 buried,
       flagged_swept (state_of old) counts old.engine c.turn_far_by.new.self old.touched
           c.sweep.new.dead.items _ c.turn_far_by.ensures.flagged c.self.invariant.near.1 buried,
+      lined_swept (state_of old) counts old.engine c.turn_far_by.new.self old.touched c.sweep.new.dead.items _
+          c.turn_far_by.ensures.lined c.self.invariant.near.2 buried,
     )
 
 pub bury_all-requires : goal.bury_all-requires
