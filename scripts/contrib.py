@@ -4,7 +4,7 @@
     contrib.py PROGRAM..
 
 The examples in each script's help run, and a script whose reader leaves ends quietly. certify.py answers what `check`
-answers: the examples, 860 made texts and those at the limits on counts. The starts of plans come to their cost. A least
+answers: the examples, 860 made texts, those at the limits on counts and plans of a great cluster. The starts of plans come to their cost. A least
 flow over dimacs_of_problem.py's network, by a search of its own, starts and costs what `plan` says, and so does
 plan_places.py. The jobs and scripts of job_of_files.py have the index that is made here of the files, lie on workers as
 HDFS places blocks, and past a limit none is written. The pictures of the docs are what picture.py makes of the samples
@@ -170,6 +170,18 @@ def certified(count, program):
             answers = list(pool.map(lambda text: said([program, "check"], text), texts))
         found = [(f"{line}\n".encode(), "", status) for line, status in map(answer, texts)]
         count.none(f"certify.py on {name}", [it for it in zip(texts, found, answers) if it[1] != it[2]])
+
+
+def certified_great(count, program):
+    """certify.py and check certify plans of 102,400 splits on 25,600 workers."""
+    for shape in ("just_enough", "scarce"):
+        text = said([ROOT / "bench/make_problems.py", shape, 102_400, 4, 25_600])[0]
+        planned = said([program, "plan", "--prices"], text)[0]
+        wave, _, plan = planned.partition(b"\n")
+        text = text.removesuffix(b"end\n") + b"plan\n" + plan + b"end\n"
+        wanted = wave.replace(b"wave", b"certified").decode()
+        count.expect(f"certify.py on a great cluster, {shape}", answer(text), (wanted, 0))
+        count.expect(f"check on a great cluster, {shape}", said([program, "check"], text), (f"{wanted}\n".encode(), "", 0))
 
 
 def problems():
@@ -693,6 +705,7 @@ def main():
             help_examples(count, program)
             helped(count, program)
             certified(count, program)
+            certified_great(count, program)
             started(count, program)
             flows(count, program)
             priced(count, program)

@@ -1,5 +1,6 @@
 #!/usr/bin/env python3
-"""Tries contrib/problem_of_hdfs.py on the listings of contrib/samples, and plans its problems by a built program.
+"""Tries contrib/problem_of_hdfs.py on the listings of contrib/samples, and plans its problems by a built program. The plan
+of a great cluster is certified by contrib/certify.py.
 
     hdfs.py PROGRAM..
 
@@ -13,6 +14,10 @@ import tempfile
 from pathlib import Path
 
 ROOT = Path(__file__).resolve().parent.parent
+sys.dont_write_bytecode = True
+sys.path.append(str(ROOT / "contrib"))
+from certify import answer
+
 SAMPLES = ROOT / "contrib/samples"
 NODES = [
     "4 nodes without a rack are in /default-rack",
@@ -195,8 +200,12 @@ def great(count, programs):
         said, told, status = problem("\n".join([*lines, ""]), slots=slots)
     count.holds("a great cluster", (told, status) == ([], 0), (told, status))
     for program in programs:
-        ran = subprocess.run([program, "plan"], input=said, capture_output=True, text=True)
-        count.holds(f"a great cluster, planned by {program}", ran.stdout.startswith("wave 102400 0\n"), ran.stdout[:80])
+        ran = subprocess.run([program, "plan", "--prices"], input=said, capture_output=True, text=True)
+        wave, _, plan = ran.stdout.partition("\n")
+        count.holds(f"a great cluster, planned by {program}", wave == "wave 102400 0", wave[:80])
+        text = said.removesuffix("end\n") + f"plan\n{plan}end\n"
+        told = answer(text.encode())
+        count.holds(f"a great cluster, planned by {program}, certified by certify.py", told == ("certified 102400 0", 0), told)
 
 
 def any_bytes(count):
