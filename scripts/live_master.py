@@ -30,10 +30,11 @@ CLUSTER = Cluster({"a": Worker("r"), "b": Worker("r"), "c": Worker("q")})
 SPLITS = {"s": Split(10, ["a"]), "t": Split(20, ["a"])}
 HEAD = head(CLUSTER, SPLITS, target=2, silence=1, documents=[("d", "s", "the cat"), ("e", "t", "the dog")])
 # Calls with what they give, or the class and number of what they raise; worked by hand by the rules of docs/MODEL.md.
+FIRST = Wave((Start(1, "s", "b"), Start(2, "t", "a")), 20)
 WORKED = [
     (calls.reduce(), (Ignored, 7)),
     (calls.copies(), (Copy("s", "a", "c"), Copy("t", "a", "c"))),
-    (calls.wave(), Wave((Start(1, "s", "b"), Start(2, "t", "a")), 20)),
+    (calls.wave(), FIRST),
     (calls.done(2), None),
     (calls.done(2), (Ignored, 1)),
     (calls.add("s", "c"), None),
@@ -192,6 +193,22 @@ def own_plans(count, program, room):
     count.expect("the same, awaited", asyncio.run(whole()), (wanted, text))
 
 
+def without_audits(count, program, room):
+    log = room / "without audits"
+    with Master(HEAD, program=program, log=log, audits=False) as master:
+        got = [outcome(master.wave), outcome(master.audit)]
+    with Master.recover(log, program=program, audits=False) as master:
+        got.append(outcome(master.audit))
+    count.expect("no wave is kept without audits", got, [FIRST, (Ignored, 7), (Ignored, 7)])
+
+    async def awaited_too():
+        async with await AsyncMaster.open(HEAD, program=program, audits=False) as master:
+            await master.wave()
+            return await awaited(master.audit)
+
+    count.expect("the same, awaited", asyncio.run(awaited_too()), (Ignored, 7))
+
+
 def refused(count, program, room):
     wrong = outcome(lambda: Master([*HEAD, "rack r centre-0"], program=program))
     count.expect("a head with a fault", wrong, (NoSession, f"line {len(HEAD) + 1}: fault 4"))
@@ -331,10 +348,13 @@ def go_home(room):
     return {**os.environ, "GOCACHE": str(room / "go"), "GOPATH": str(room / "path"), "GO111MODULE": "off"}
 
 
+PARTS = (worked, at_once, awaiting, own_plans, without_audits, refused, recovered, threads, simulated, documents, compiled)
+
+
 def main(programs):
     counts = [Count(os.path.abspath(it)) for it in programs]
     for count in counts:
-        for part in (worked, at_once, awaiting, own_plans, refused, recovered, threads, simulated, documents, compiled):
+        for part in PARTS:
             with tempfile.TemporaryDirectory() as room:
                 part(count, count.program, Path(room))
     passed, failed = sum(it.passed for it in counts), sum(it.failed for it in counts)

@@ -26,7 +26,7 @@ class Help:
         listed = dict(re.findall(r"^(Commands|Arguments|Options):\n((?:  .*\n)*)", rest, re.M))
         self.arguments = re.findall(r"^  ([<[]\w+[]>]) +(.*)$", listed.get("Arguments", ""), re.M)
         self.commands = re.findall(r"^  (\w+) +(.*)$", listed.get("Commands", ""), re.M)
-        options = re.findall(r"^ +(?:(-\w), )?(--\w+)(?: <(\w+)>)? +(.*)$", listed["Options"], re.M)
+        options = re.findall(r"^ +(?:(-\w), )?(--[\w-]+)(?: <(\w+)>)? +(.*)$", listed["Options"], re.M)
         self.options = [(long, short, value, says) for short, long, value, says in options]
         self.rest = rest.split(listed["Options"], 1)[1].strip("\n")
 

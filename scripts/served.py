@@ -259,8 +259,8 @@ class Count:
 class Master:
     """A live master, which is told a head at once. `tell` sends a line and reads its whole answer."""
 
-    def __init__(self, program, head):
-        self.pipe = subprocess.Popen([program, "serve"], stdin=subprocess.PIPE, stdout=subprocess.PIPE)
+    def __init__(self, program, head, *words):
+        self.pipe = subprocess.Popen([program, "serve", *words], stdin=subprocess.PIPE, stdout=subprocess.PIPE)
         self.opening = self.tell("\n".join([*head, "begin"]))
 
     def tell(self, line):
@@ -304,6 +304,15 @@ def worked(count, program):
         master = Master(program, head)
         got = [(line, master.tell(line)) for line, _ in turns]
         count.expect(name, (master.opening, got, master.end()), (NONE, turns, (b"", status)))
+
+
+def without_audits(count, program):
+    """With --no-audit each answer is the same, but that there is no wave for an audit."""
+    for name, (head, status, turns) in WORKED.items():
+        master = Master(program, head, "--no-audit")
+        got = [(line, master.tell(line)) for line, _ in turns]
+        wanted = [(line, ["ignored 7"] if line == "audit" else answer) for line, answer in turns]
+        count.expect(f"{name}, without audits", (master.opening, got, master.end()), (NONE, wanted, (b"", status)))
 
 
 def refused(count, program):
@@ -541,7 +550,7 @@ def main(programs):
     counts = []
     for program in programs:
         counts.append(Count(program))
-        for part in (worked, refused, cut_off, made, own_plans, endless, told_again, full):
+        for part in (worked, without_audits, refused, cut_off, made, own_plans, endless, told_again, full):
             part(counts[-1], program)
     passed, failed = sum(it.passed for it in counts), sum(it.failed for it in counts)
     print(f"{passed} passed, {failed} failed")

@@ -116,7 +116,7 @@ class Session:
         self.is_kept = False  # whether nothing was told since by which an attempt may be kept no more
         self.outs: Optional[set[str]] = None
         self.script, self.report = [*calls.head(cluster, blocks, parts=parts), "begin"], list[str]()
-        self.master = Master(self.script[:-1], program=program)
+        self.master = Master(self.script[:-1], program=program, audits=False)
         for it in sorted(told, key=lambda it: it.end == "running"):
             self.retell(it)
 

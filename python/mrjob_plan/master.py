@@ -81,8 +81,9 @@ class Log:
             self.file.close()
 
 
-def serve(program: Program) -> List[str]:
-    return [*([program] if isinstance(program, str) else program), "serve"]
+def serve(program: Program, audits: bool) -> List[str]:
+    """The words by which a master is called; without audits it keeps no wave for one."""
+    return [*([program] if isinstance(program, str) else program), "serve", *([] if audits else ["--no-audit"])]
 
 
 def sent(lines: Iterable[str]) -> bytes:
@@ -128,14 +129,21 @@ class Master:
     """A master of the job that a head declares: the lines of a script up to its `begin`, without it.
 
     `program` is its name, or words in front of `serve`. `log` is a file that must not be there yet; with `durable` each
-    of its lines is on the disk before it is sent. Leaving `with` closes the pipe, and the master ends by itself;
-    `status` is then what it ended with.
+    of its lines is on the disk before it is sent. Without `audits` no wave is kept for `audit`, which is then ignored,
+    and a wave copies no problem. Leaving `with` closes the pipe, and the master ends by itself; `status` is then what
+    it ended with.
     """
 
     def __init__(
-        self, head: Iterable[str], *, program: Program = "mrjob", log: Optional[Place] = None, durable: bool = False
+        self,
+        head: Iterable[str],
+        *,
+        program: Program = "mrjob",
+        log: Optional[Place] = None,
+        durable: bool = False,
+        audits: bool = True,
     ) -> None:
-        self._begin(program, Log(log, durable, True))
+        self._begin(serve(program, audits), Log(log, durable, True))
         try:
             opened(self._told([*head, "begin"]))
         except BaseException:
@@ -143,11 +151,13 @@ class Master:
             raise
 
     @classmethod
-    def recover(cls, log: Place, *, program: Program = "mrjob", durable: bool = False) -> "Master":
+    def recover(
+        cls, log: Place, *, program: Program = "mrjob", durable: bool = False, audits: bool = True
+    ) -> "Master":
         """A new master that was told a log, and goes on with it. `told` has each line with its answer: of the last one
         the old master may not have answered."""
         master = cls.__new__(cls)
-        master._begin(program, Log(log, durable, False))
+        master._begin(serve(program, audits), Log(log, durable, False))
         try:
             first, rest = parted(master._log.whole_lines(), log)
             writer = threading.Thread(target=master._write, args=(sent([*first, *rest]),), daemon=True)
@@ -160,12 +170,12 @@ class Master:
             raise
         return master
 
-    def _begin(self, program: Program, log: Log) -> None:
+    def _begin(self, words: Sequence[str], log: Log) -> None:
         self.told: List[Tuple[str, List[str]]] = []
         self.status: Optional[int] = None
         self._log, self._turn = log, threading.Lock()
         try:
-            self._process = subprocess.Popen(serve(program), stdin=subprocess.PIPE, stdout=subprocess.PIPE)
+            self._process = subprocess.Popen(words, stdin=subprocess.PIPE, stdout=subprocess.PIPE)
         except BaseException:
             log.close()
             raise
@@ -345,10 +355,10 @@ class AsyncMaster:
         self._process, self._log, self._turn = process, log, asyncio.Lock()
 
     @classmethod
-    async def _begin(cls, program: Program, log: Log) -> "AsyncMaster":
+    async def _begin(cls, words: Sequence[str], log: Log) -> "AsyncMaster":
         pipe = asyncio.subprocess.PIPE
         try:
-            process = await asyncio.create_subprocess_exec(*serve(program), stdin=pipe, stdout=pipe, limit=MOST_BYTES)
+            process = await asyncio.create_subprocess_exec(*words, stdin=pipe, stdout=pipe, limit=MOST_BYTES)
         except BaseException:
             log.close()
             raise
@@ -356,9 +366,15 @@ class AsyncMaster:
 
     @classmethod
     async def open(
-        cls, head: Iterable[str], *, program: Program = "mrjob", log: Optional[Place] = None, durable: bool = False
+        cls,
+        head: Iterable[str],
+        *,
+        program: Program = "mrjob",
+        log: Optional[Place] = None,
+        durable: bool = False,
+        audits: bool = True,
     ) -> "AsyncMaster":
-        master = await cls._begin(program, Log(log, durable, True))
+        master = await cls._begin(serve(program, audits), Log(log, durable, True))
         try:
             opened(await master._told([*head, "begin"]))
         except BaseException:
@@ -367,8 +383,10 @@ class AsyncMaster:
         return master
 
     @classmethod
-    async def recover(cls, log: Place, *, program: Program = "mrjob", durable: bool = False) -> "AsyncMaster":
-        master = await cls._begin(program, Log(log, durable, False))
+    async def recover(
+        cls, log: Place, *, program: Program = "mrjob", durable: bool = False, audits: bool = True
+    ) -> "AsyncMaster":
+        master = await cls._begin(serve(program, audits), Log(log, durable, False))
         try:
             first, rest = parted(master._log.whole_lines(), log)
             writing = asyncio.ensure_future(master._write(sent([*first, *rest])))

@@ -1,6 +1,6 @@
 -- The commands of mrjob, what clap finds in the words, and when they have a fault.
 use Rattle.std.specs.Prelude.{ℕ, ◌<◌, ◌≡◌, ◌⊎◌, ◌↔◌, IsSome, None, Bool, List, [], ◌∷◌, Option, Some, codes, false}
-use Rattle.std.specs.Prelude.{true, Ok, ⊤, option_and_then, option_map}
+use Rattle.std.specs.Prelude.{true, Ok, option_and_then, option_map}
 use Rattle.std.specs.Option.{option_map_or}
 use Rattle.std.specs.Str.{bytes_eq}
 use Rattle.std.specs.Str.Parse.{ParsesUnsigned}
@@ -54,7 +54,7 @@ abbrev pub play : App
 play = with_rule (with_rule (new_app (codes "play")) (flag (codes "quiet"))) (flag (codes "explain"))
 
 abbrev pub serve : App
-serve = new_app (codes "serve")
+serve = with_rule (new_app (codes "serve")) (flag (codes "no-audit"))
 
 abbrev pub run : App
 run =
@@ -118,7 +118,7 @@ abbrev pub command_word : Ask → Text
 command_word (Check options) = codes "check"
 command_word (Plan options) = codes "plan"
 command_word (Play options) = codes "play"
-command_word Serve = codes "serve"
+command_word (Serve options) = codes "serve"
 command_word (Run options) = codes "run"
 command_word (Explain entry) = codes "explain"
 
@@ -141,7 +141,7 @@ AsksBy text (Plan options) = (options.prices ≡ is_set (text (codes "prices")))
     × (options.explain ≡ is_set (text (codes "explain")))
 AsksBy text (Play options) = (options.quiet ≡ is_set (text (codes "quiet")))
     × (options.explain ≡ is_set (text (codes "explain")))
-AsksBy text Serve = ⊤
+AsksBy text (Serve options) = options.no_audit ≡ is_set (text (codes "no-audit"))
 AsksBy text (Run options) = AsksAhead (text (codes "ahead")) options.ahead
     × (options.history ≡ is_set (text (codes "history")))
     × (options.quiet ≡ is_set (text (codes "quiet"))) × (options.explain ≡ is_set (text (codes "explain")))

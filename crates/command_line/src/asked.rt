@@ -11,7 +11,7 @@ pub enum Ask {
     /// Play a script of a job.
     Play(PlayOptions),
     /// Serve a live master.
-    Serve,
+    Serve(ServeOptions),
     /// Run a job on threads.
     Run(RunOptions),
     /// Say what this line of the table of explanations says, or each, where none is named.
@@ -43,6 +43,13 @@ pub struct PlayOptions {
     pub quiet: bool,
     /// Standard error says what a fault means, and why commands were ignored.
     pub explain: bool,
+}
+
+/// What a live master keeps.
+#[derive(Clone, Copy, Debug, PartialEq, Eq)]
+pub struct ServeOptions {
+    /// No wave is kept for an audit.
+    pub no_audit: bool,
 }
 
 /// How a run is planned, what is written of it, and what is told while it lasts.

@@ -1,5 +1,5 @@
 ghost use Rattle.std.specs.Prelude.{◌≡◌, IfOk, false, true};
-ghost use Rattle.clap.specs.Words.{App, app_of, new_app, rule_of, with_subcommand};
+ghost use Rattle.clap.specs.Words.{App, Rule, app_of, new_app, rule_of, with_rule, with_subcommand};
 ghost use Rattle.command_line.specs.Commands.{check, explain, flag, mrjob, network, option, plan, play, run};
 ghost use Rattle.command_line.specs.Commands.{serve, word};
 
@@ -130,6 +130,9 @@ It is answered by:
 const SERVE_ABOUT: &str =
     "Serves a live master, which answers each command before it reads the next one";
 
+const NO_AUDIT_HELP: &str =
+    "Keeps no wave for an `audit`, which is then ignored, so that a wave copies no problem";
+
 const SERVE_TEXTS: &str = "\
 Input:   on standard input the head of a script and `begin`, then one command a line, and `end`
 Output:  an empty line once the master is open, then the lines of `play` for each command; each answer
@@ -254,69 +257,80 @@ fn network_option<'a>(alloc: Global) -> Arg<'a>
     option_of(alloc, "network", "NETWORK", NETWORK_HELP).default_value("racks")
 }
 
+// The command with one more argument, where there was memory to make it.
+fn with_arg<'a>(
+    command: Result<Command<'a>, AllocError>,
+    arg: Arg<'a>,
+) -> Result<Command<'a>, AllocError>
+    ensures { (app : App) (rule : Rule) → IfOk command.entry (λ made. app_of made ≡ app)
+        → rule_of arg.entry ≡ rule → arg.entry.global ≡ false
+        → IfOk result (λ after. app_of after ≡ with_rule app rule) }
+{
+    command?.arg(arg)
+}
+
 fn check_command<'a>(alloc: Global) -> Result<Command<'a>, AllocError>
     ensures { IfOk result (λ command. app_of command ≡ check) }
 {
-    command_of(alloc, "check", CHECK_ABOUT, CHECK_TEXTS).arg(flag_of(
-        alloc,
-        "explain",
-        EXPLAIN_HELP,
-    ))
+    let command = Ok(command_of(alloc, "check", CHECK_ABOUT, CHECK_TEXTS));
+    with_arg(command, flag_of(alloc, "explain", EXPLAIN_HELP))
 }
 
 fn play_command<'a>(alloc: Global) -> Result<Command<'a>, AllocError>
     ensures { IfOk result (λ command. app_of command ≡ play) }
 {
-    command_of(alloc, "play", PLAY_ABOUT, PLAY_TEXTS)
-        .arg(flag_of(alloc, "quiet", QUIET_HELP))?
-        .arg(flag_of(alloc, "explain", EXPLAIN_HELP))
+    let command = Ok(command_of(alloc, "play", PLAY_ABOUT, PLAY_TEXTS));
+    let command = with_arg(command, flag_of(alloc, "quiet", QUIET_HELP));
+    with_arg(command, flag_of(alloc, "explain", EXPLAIN_HELP))
 }
 
 fn serve_command<'a>(alloc: Global) -> Result<Command<'a>, AllocError>
     ensures { IfOk result (λ command. app_of command ≡ serve) }
 {
-    Ok(command_of(alloc, "serve", SERVE_ABOUT, SERVE_TEXTS))
+    let command = Ok(command_of(alloc, "serve", SERVE_ABOUT, SERVE_TEXTS));
+    with_arg(command, flag_of(alloc, "no-audit", NO_AUDIT_HELP))
 }
 
 /// The command that runs a job.
 pub(crate) fn run_command<'a>(alloc: Global) -> Result<Command<'a>, AllocError>
     ensures { IfOk result (λ command. app_of command ≡ run) }
 {
-    command_of(alloc, "run", RUN_ABOUT, RUN_TEXTS)
-        .arg(option_of(alloc, "ahead", "N", AHEAD_HELP))?
-        .arg(flag_of(alloc, "history", HISTORY_HELP))?
-        .arg(flag_of(alloc, "quiet", QUIET_HELP))?
-        .arg(flag_of(alloc, "explain", EXPLAIN_HELP))
+    let command = Ok(command_of(alloc, "run", RUN_ABOUT, RUN_TEXTS));
+    let command = with_arg(command, option_of(alloc, "ahead", "N", AHEAD_HELP));
+    let command = with_arg(command, flag_of(alloc, "history", HISTORY_HELP));
+    let command = with_arg(command, flag_of(alloc, "quiet", QUIET_HELP));
+    with_arg(command, flag_of(alloc, "explain", EXPLAIN_HELP))
 }
 
 /// The command that explains.
 pub(crate) fn explain_command<'a>(alloc: Global) -> Result<Command<'a>, AllocError>
     ensures { IfOk result (λ command. app_of command ≡ explain) }
 {
-    command_of(alloc, "explain", EXPLAIN_ABOUT, EXPLAIN_TEXTS)
-        .arg(word_of(alloc, "kind", "KIND", KIND_HELP))?
-        .arg(word_of(alloc, "name", "NAME", NAME_HELP))
+    let command = Ok(command_of(alloc, "explain", EXPLAIN_ABOUT, EXPLAIN_TEXTS));
+    let command = with_arg(command, word_of(alloc, "kind", "KIND", KIND_HELP));
+    with_arg(command, word_of(alloc, "name", "NAME", NAME_HELP))
 }
 
 /// The command that plans.
 pub(crate) fn plan_command<'a>(alloc: Global) -> Result<Command<'a>, AllocError>
     ensures { IfOk result (λ command. app_of command ≡ plan) }
 {
-    command_of(alloc, "plan", PLAN_ABOUT, PLAN_TEXTS)
-        .arg(flag_of(alloc, "prices", PRICES_HELP))?
-        .arg(network_option(alloc))?
-        .arg(flag_of(alloc, "explain", EXPLAIN_HELP))
+    let command = Ok(command_of(alloc, "plan", PLAN_ABOUT, PLAN_TEXTS));
+    let command = with_arg(command, flag_of(alloc, "prices", PRICES_HELP));
+    let command = with_arg(command, network_option(alloc));
+    with_arg(command, flag_of(alloc, "explain", EXPLAIN_HELP))
 }
 
-// The commands with one more, where there was memory to make it.
+// The commands with one more, where there was memory to make them.
 fn with_command<'a>(
-    commands: Command<'a>,
+    commands: Result<Command<'a>, AllocError>,
     command: Result<Command<'a>, AllocError>,
 ) -> Result<Command<'a>, AllocError>
-    ensures { (new : App) → IfOk command.entry (λ made. app_of made ≡ new) → new.top.is_plain ≡ true
-        → IfOk result (λ after. app_of after ≡ with_subcommand (app_of commands.entry) new.top) }
+    ensures { (program new : App) → IfOk commands.entry (λ made. app_of made ≡ program)
+        → IfOk command.entry (λ made. app_of made ≡ new) → new.top.is_plain ≡ true
+        → IfOk result (λ after. app_of after ≡ with_subcommand program new.top) }
 {
-    commands.subcommand(command?)
+    commands?.subcommand(command?)
 }
 
 /// `mrjob` and its commands.
@@ -326,10 +340,10 @@ pub(crate) fn all_commands<'a>(alloc: Global) -> Result<Command<'a>, AllocError>
     let commands = command_of(alloc, "mrjob", ABOUT, STATUSES)
         .version(VERSION)
         .subcommand_required(true);
-    let commands = with_command(commands, check_command(alloc))?;
-    let commands = with_command(commands, plan_command(alloc))?;
-    let commands = with_command(commands, play_command(alloc))?;
-    let commands = with_command(commands, serve_command(alloc))?;
-    let commands = with_command(commands, run_command(alloc))?;
+    let commands = with_command(Ok(commands), check_command(alloc));
+    let commands = with_command(commands, plan_command(alloc));
+    let commands = with_command(commands, play_command(alloc));
+    let commands = with_command(commands, serve_command(alloc));
+    let commands = with_command(commands, run_command(alloc));
     with_command(commands, explain_command(alloc))
 }

@@ -20,7 +20,9 @@ ghost use Rattle.explanations.specs.Table.{row_of};
 pub mod asked;
 mod commands;
 
-use crate::asked::{Ask, AskError, CheckOptions, PlanOptions, PlayOptions, RunOptions};
+use crate::asked::{
+    Ask, AskError, CheckOptions, PlanOptions, PlayOptions, RunOptions, ServeOptions,
+};
 use crate::commands::{all_commands, explain_command, plan_command, run_command};
 use clap::error::ErrorKind;
 use clap::{ArgMatches, Command};
@@ -85,7 +87,9 @@ fn ask_by_name(alloc: Global, name: &str, options: &ArgMatches) -> Result<Ask, A
             quiet: is_given(options, "quiet"),
             explain: is_given(options, "explain"),
         })),
-        "serve" => Ok(Ask::Serve),
+        "serve" => Ok(Ask::Serve(ServeOptions {
+            no_audit: is_given(options, "no-audit"),
+        })),
         "run" => ask_for_run(alloc, options),
         "explain" => ask_for_rows(alloc, options),
         _ => unreachable!(),

@@ -1,5 +1,5 @@
 -- How a session ends, by what was taken and written.
-use Rattle.std.proofs.Common.{ℕ, List, ◌≡◌, ap, inl, inr, Option, Result, Ok, Err, refl, subst, sym}
+use Rattle.std.proofs.Common.{Bool, ℕ, List, ◌≡◌, ap, inl, inr, Option, Result, Ok, Err, refl, subst, sym}
 use Rattle.std.specs.Io.KnownBytes.{Keeps}
 use Rattle.std.specs.Result.{IsErrAnd}
 use Rattle.text_lines.specs.Streams.{AppendsFront}
@@ -82,25 +82,25 @@ module _ (unread left old by : Option (List ℕ)) (before after : Session) where
 
 -- ---- the whole session
 
-module _ (unread left old new : Option (List ℕ)) (r : Result PlayEnd ToolError) where
+module _ (audits : Bool) (unread left old new : Option (List ℕ)) (r : Result PlayEnd ToolError) where
   -- no session was opened, since something was wanting
   pub unopened : (why : ToolError) → IsOfReading why → IsErrAnd r (λ e. e ≡ why) → Keeps old new
-      → Serves unread left old new r
+      → Serves audits unread left old new r
   unopened tool.Read of is keeps =
-      subst (Serves unread left old new) (sym (is_error tool.Read r is)) (inl keeps)
+      subst (Serves audits unread left old new) (sym (is_error tool.Read r is)) (inl keeps)
   unopened tool.Memory of is keeps =
-      subst (Serves unread left old new) (sym (is_error tool.Memory r is)) (inl keeps)
+      subst (Serves audits unread left old new) (sym (is_error tool.Memory r is)) (inl keeps)
   unopened tool.Write of is keeps = absurd of
   unopened tool.HistoryFull of is keeps = absurd of
   unopened (tool.Text fault) of is keeps = absurd of
 
   -- or since the first answer was not written
   pub ungreeted : (line : List ℕ) (why : ToolError) → IsErrAnd r (λ e. e ≡ why)
-      → Writes {T = Unit {0}} old new (closed line) (Err why) → Serves unread left old new r
+      → Writes {T = Unit {0}} old new (closed line) (Err why) → Serves audits unread left old new r
   ungreeted line tool.Write is front =
-      subst (Serves unread left old new) (sym (is_error tool.Write r is)) (inl (line, front))
+      subst (Serves audits unread left old new) (sym (is_error tool.Write r is)) (inl (line, front))
   ungreeted line tool.Memory is keeps =
-      subst (Serves unread left old new) (sym (is_error tool.Memory r is)) (inl keeps)
+      subst (Serves audits unread left old new) (sym (is_error tool.Memory r is)) (inl keeps)
   ungreeted line tool.Read is none = absurd none
   ungreeted line tool.HistoryFull is none = absurd none
   ungreeted line (tool.Text fault) is none = absurd none

@@ -1,5 +1,6 @@
 -- What a session keeps, and what it answers to a line.
-use Rattle.std.proofs.Common.{ℕ, ◌≡◌, ◌≢◌, ◌≤◌, ◌<◌, ◌++◌, ◌∙◌, List, [], ap, arith, length, refl, subst}
+use Rattle.std.proofs.Common.{ℕ, ◌+◌, ◌-◌, ◌^◌, ◌≡◌, ◌≢◌, ◌≤◌, ◌<◌, ◌++◌, ◌∙◌, List, [], ap, arith, length, refl}
+use Rattle.std.proofs.Common.{subst}
 use Rattle.std.proofs.Common.{sym, inl, inr, replicate, Option, Some, None, append-nil}
 use Rattle.std.specs.Prelude.{IfSome}
 use Rattle.std.specs.Option.{option_map}
@@ -18,7 +19,7 @@ use Rattle.plan_text.specs.Names.{nth_word}
 use Rattle.plan_text.specs.Tidy.{AreTidy}
 use Rattle.plan_text.proofs.Tidy.{tidy-read}
 use Rattle.master_state.specs.Jobs.{Job, IsCommitted, present}
-use Rattle.master_state.specs.States.{Cluster, Setup, opening}
+use Rattle.master_state.specs.States.{AreAllowed, Cluster, Setup, opening}
 use Rattle.master_state.specs.declared.states.Start.{Start}
 use Rattle.script_text.specs.Commands.{IsKnownIn, SaysCommand}
 use Rattle.script_text.specs.Heads.{FitMaster}
@@ -37,6 +38,7 @@ use Rattle.job_play.specs.Reports.{IsKnownCommand, opening_job}
 use Rattle.job_play.specs.declared.player.PlayEnd.{PlayEnd}
 use Rattle.job_play.proofs.Answered.{same_cluster}
 use Rattle.job_play.proofs.Kept.{holds_runs}
+use Rattle.wave_problem.specs.Assignment.{pairs_of}
 use Rattle.wave_problem.specs.Wave as planned
 use Rattle.price_certificate.specs.Certificate.{Certifies, claim}
 use Rattle.master_state.specs.Steps.{problem_of}
@@ -135,12 +137,13 @@ holds_none setup parts job is same = subst (HoldsRuns (replicate parts [])) (sym
 pub is_opened : (text : Line) (live : Live) (read : ScriptText) → IsOpening text read live.known
     → live.names ≡ read.script.names → live.target ≡ read.script.target → live.last ≡ None
     → live.draft ≡ no_draft live.names → live.job ≡ opening_job (served_on (cluster_in read.head))
-    → IsOpened text live
+    → IsOpened live.audits text live
 is_opened text live read opening names target last draft is = record {
   read = read;
   opening = opening;
   names = names;
   target = target;
+  audits_are = refl;
   job = is ∙ ap (λ (c : Cluster). opening_job (served_on c))
       (same_cluster opening.ended read.head opening.head
       ∙ ap (λ (k : Known). declared_cluster k) (sym opening.reopened));
@@ -192,7 +195,21 @@ ready_started old a wave job draft committed found certified named ready =
     (holds_started old a.plan.starts wave job committed ready.given) named
     (subst (λ (p : planned.Wave). Certifies (claim p a.plan.starts a.prices)) (sym found) certified) ready
 
--- ---- a command
+-- or that was started and not kept
+pub ready_unkept : (old : Session) (starts : List (Option ℕ)) (wave : Wave) (job : Job)
+    → IsCommitted old.master starts wave job → IsOpen old → IsOpen (record old { master = job })
+ready_unkept old starts wave job committed ready =
+    ready_moved old (record old { master = job }) refl refl committed.next.setup
+    (holds_started old starts wave job committed ready.given) ready.draft ready.certified ready
+
+-- a wave's starts have numbers of 32 bits
+pub numbers_fit : (old : Job) (starts : List (Option ℕ)) (wave : Wave) (new : Job) → AreAllowed old.setup.limits
+    → IsCommitted old starts wave new → wave.first + length (pairs_of starts) ≤ 2 ^ 32 - 1
+numbers_fit old starts wave new small committed =
+    let room = committed.change.room in
+    let first = committed.change.first_is in
+    let most = small.attempts in
+    grind arith
 
 -- ---- a request
 

@@ -1,6 +1,6 @@
 -- What a live master answers to a line, and what its answers are together.
 use Rattle.std.specs.Prelude.{ℕ, ◌≡◌, ◌≢◌, ◌⊎◌, ◌≤◌, ◌<◌, ◌++◌, ◌∷◌, [], List, Option, Some, None, Ok, Err}
-use Rattle.std.specs.Prelude.{IfSome, length}
+use Rattle.std.specs.Prelude.{Bool, IfSome, false, length, true}
 use Rattle.std.specs.Option.{option_map}
 use Rattle.std.specs.declared.result.Result.{Result}
 use Rattle.text_lines.specs.Texts.{Line}
@@ -56,12 +56,14 @@ serving_room = record { events = 1048576; attempts = 1000000; sweeps = 65536 }
 abbrev pub served_on : Cluster → Setup
 served_on cluster = record { cluster = cluster; limits = serving_room }
 
--- What the head says, which stays; the master's job, which goes on; the last wave, with the problem that it
--- found and the prices of its plan; and what was said of a plan of the client's own.
+-- What the head says, and whether waves are kept for audits, which stay; the master's job, which goes on; the
+-- last wave that was kept, with the problem that it found and the prices of its plan; and what was said of a
+-- plan of the client's own.
 pub record Live : Type 0 where
   pub known : Known
   pub names : Names
   pub target : ℕ
+  pub audits : Bool
   pub job : Job
   pub last : Option Claim
   pub draft : DraftView
@@ -71,11 +73,12 @@ abbrev pub no_draft : Names → DraftView
 no_draft names = empty_draft (length names.splits) (length names.workers)
 
 -- a head with `begin` opens it, read with an `end` behind
-pub record IsOpened (text : List ℕ) (live : Live) : Type 0 where
+pub record IsOpened (audits : Bool) (text : List ℕ) (live : Live) : Type 0 where
   pub read : ScriptText
   pub opening : IsOpening text read live.known
   pub names : live.names ≡ read.script.names
   pub target : live.target ≡ read.script.target
+  pub audits_are : live.audits ≡ audits
   pub job : live.job ≡ opening_job (served_on (declared_cluster live.known))
   pub last : live.last ≡ None
   pub draft : live.draft ≡ no_draft live.names
@@ -100,6 +103,7 @@ live_of s = record {
   known = s.known;
   names = s.script.names;
   target = s.script.target;
+  audits = s.audits;
   job = s.master;
   last = option_map claim_of s.last;
   draft = s.draft;
@@ -125,8 +129,9 @@ abbrev pub PerformsLive : Names → ℕ → Job → Command → List ℕ → Job
 PerformsLive names target old c out new =
     Performs names target old c out new ⊎ IgnoresFull old c out new
 
--- a best wave is started, and is the last one
+-- a best wave is started, and is kept as the last one
 pub record StartsWave (old : Live) (out : List ℕ) (new : Live) : Type 0 where
+  pub audits : old.audits ≡ true
   pub shown : Claim
   pub found : shown ≡ present old.job shown.starts shown.prices
   pub certified : Certifies shown
@@ -135,11 +140,12 @@ pub record StartsWave (old : Live) (out : List ℕ) (new : Live) : Type 0 where
   pub out_is : out ≡ wave_lines old.names shown.starts wave
   pub last : new.last ≡ Some shown
 
--- a command is performed: a wave that starts, a command whose starts have no room, or another one
+-- a command is performed: a wave that starts and is kept, a command whose starts have no room, or another one
 abbrev pub PerformsIn : Live → Command → List ℕ → Live → Type 0
 PerformsIn old c out new = ((c ≡ command.Wave) × StartsWave old out new)
     ⊎ ((IgnoresFull old.job c out new.job × (new.last ≡ old.last))
-    ⊎ ((c ≢ command.Wave) × Performs old.names old.target old.job c out new.job × (new.last ≡ old.last)))
+    ⊎ ((c ≡ command.Wave → old.audits ≡ false) × Performs old.names old.target old.job c out new.job
+    × (new.last ≡ old.last)))
 
 -- the line says a command, without a fault, and it is performed
 pub record Tells (old : Live) (line : Line) (out : List ℕ) (new : Live) : Type 0 where
@@ -168,17 +174,19 @@ pub record Drafts (old : Live) (line : Line) (out : List ℕ) (new : Live) : Typ
   pub out_is : out ≡ []
   pub head : new ≡ record old { draft = said old.names old.draft statement }
 
--- the last wave after a commit of this plan that was answered so
-abbrev pub last_by : Live → List (Option ℕ) → PriceList → Result Wave CommitError → Option Claim
-last_by old starts prices (Ok wave) = Some (present old.job starts prices)
-last_by old starts prices (Err e) = old.last
+-- the last wave after a commit that was answered so: this claim where waves are kept, else the one before
+abbrev pub IsLastBy : Bool → Claim → Option Claim → Result Wave CommitError → Option Claim → Type 0
+IsLastBy audits shown before (Ok wave) last =
+    ((audits ≡ true) × (last ≡ Some shown)) ⊎ ((audits ≡ false) × (last ≡ before))
+IsLastBy audits shown before (Err e) last = last ≡ before
 
 -- the plan that was said is committed as a wave, or refused, and a new one may be said
 pub record Commits (old : Live) (line : Line) (out : List ℕ) (new : Live) : Type 0 where
   pub line_is : line ≡ word_of request.Commit
   pub result : Result Wave CommitError
   pub commits : CommitsPlan old.names old.draft old.job result out new.job
-  pub last : new.last ≡ last_by old old.draft.starts (prices_said old.draft) result
+  pub last : IsLastBy old.audits (present old.job old.draft.starts (prices_said old.draft)) old.last result
+      new.last
   pub head : new ≡ record old { job = new.job; last = new.last; draft = no_draft old.names }
 
 -- the plan lacks a price, and nothing changes
@@ -311,7 +319,8 @@ pub record CommittedPlan (old : Session) (starts : List (Option ℕ)) (prices : 
   pub answers : AnswersCommit old.master starts prices result new.master
   pub told : TellsCommit old.script.names starts result out
   pub written : now ≡ before ++ out
-  pub last : option_map claim_of new.last ≡ last_by (live_of old) starts prices result
+  pub last : IsLastBy old.audits (present old.master starts prices) (option_map claim_of old.last) result
+      (option_map claim_of new.last)
   pub head : live_of new ≡ record (live_of old) { job = new.master; last = option_map claim_of new.last }
 
 -- what a commit makes a session write and do

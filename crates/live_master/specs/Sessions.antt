@@ -1,5 +1,5 @@
 -- What a session takes of its reader and writes, from its head on.
-use Rattle.std.specs.Prelude.{ℕ, ◌≡◌, ◌≢◌, ◌⊎◌, ◌++◌, [], List, Option, Ok, Err, codes, take, true, false}
+use Rattle.std.specs.Prelude.{ℕ, ◌≡◌, ◌≢◌, ◌⊎◌, ◌++◌, [], Bool, List, Option, Ok, Err, codes, take, true, false}
 use Rattle.std.specs.Io.KnownBytes.{Appends, Consumes, Keeps}
 use Rattle.std.specs.declared.result.Result.{Result}
 use Rattle.text_lines.specs.Streams.{AppendsFront, most_read}
@@ -84,19 +84,20 @@ ServesLines unread left old new before after (Err why) =
 -- ---- a whole session
 
 -- a session was opened by a head, and said so by an empty line
-pub record IsGreeted (unread at old by : Option (List ℕ)) (first : Session) : Type 0 where
+pub record IsGreeted (audits : Bool) (unread at old by : Option (List ℕ)) (first : Session) : Type 0 where
   pub text : List ℕ
   pub head : IsHead unread at text
-  pub opened : IsOpened text (live_of first)
+  pub opened : IsOpened audits text (live_of first)
   pub greeted : Appends old by (closed [])
 
 -- and was told lines
-pub record IsServed (unread left old new : Option (List ℕ)) (result : Result PlayEnd ToolError) : Type 0 where
+pub record IsServed (audits : Bool) (unread left old new : Option (List ℕ)) (result : Result PlayEnd ToolError)
+    : Type 0 where
   pub at : Option (List ℕ)
   pub by : Option (List ℕ)
   pub first : Session
   pub last : Session
-  pub greeted : IsGreeted unread at old by first
+  pub greeted : IsGreeted audits unread at old by first
   pub lines : ServesLines at left by new first last result
 
 -- the head has this fault, which was told
@@ -115,9 +116,11 @@ IsUnopened unread left old new (Err (tool.Text fault)) = IsRefused unread left o
 IsUnopened unread left old new (Err tool.Write) = (line : List ℕ) × AppendsFront old new (closed line)
 IsUnopened unread left old new (Err why) = Keeps old new
 
-abbrev pub Serves : Option (List ℕ) → Option (List ℕ) → Option (List ℕ) → Option (List ℕ)
+-- waves are kept for audits, or are not
+abbrev pub Serves : Bool → Option (List ℕ) → Option (List ℕ) → Option (List ℕ) → Option (List ℕ)
     → Result PlayEnd ToolError → Type 0
-Serves unread left old new result = IsUnopened unread left old new result ⊎ IsServed unread left old new result
+Serves audits unread left old new result =
+    IsUnopened unread left old new result ⊎ IsServed audits unread left old new result
 
 -- What follows serves private clauses alone.
 

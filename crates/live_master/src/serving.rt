@@ -1,6 +1,6 @@
 //! A live master: one line after another is answered, each before the next one is read.
 ghost use Rattle.std.specs.Prelude.{◌≡◌, ◌≢◌, ◌+◌, ◌-◌, ◌++◌, ◌<◌, ◌≤◌, ◌^◌, [], IfErr, IfOk, OnOk, Some};
-ghost use Rattle.std.specs.Prelude.{length, string_bytes};
+ghost use Rattle.std.specs.Prelude.{length, string_bytes, true};
 ghost use Rattle.wave_problem.specs.Assignment.{pairs_of};
 ghost use Rattle.line_shapes.specs.Lines.{statement_of};
 ghost use Rattle.line_rules.specs.Reading.{IsFitLine, IsLeastError};
@@ -79,13 +79,14 @@ impl Drop for Audited {
     }
 }
 
-/// A live master, with what the head of its text says, its last wave, and what was said of a plan of the
-/// client's own.
+/// A live master, with what the head of its text says, its last wave if waves are kept for audits, and what
+/// was said of a plan of the client's own.
 pub struct Session<'t> {
     known: KnownLines<'t>,
     script: Script<'t>,
     master: Master,
     given: GivenRuns,
+    audits: bool,
     last: Option<Audited>,
     draft: Draft,
 }
@@ -98,6 +99,7 @@ impl<'t> Drop for Session<'t> {
             script: _,
             master: _,
             given: _,
+            audits: _,
             last: _,
             draft: _,
         } = self;
@@ -107,20 +109,21 @@ impl<'t> Drop for Session<'t> {
 /// Serves the master of the head that stands first, one command or query after another: each line is answered
 /// before the next line is read, and an empty line ends each answer. After `end` it answers how the script
 /// has ended. A head with a fault, and an input that ends before `end`, end in `ToolError::Text`, whose fault is
-/// written.
+/// written. With `audits` the last wave is kept for an audit, which copies the problem at each wave.
 pub fn serve<R: BufRead, W: Write>(
     alloc: Global,
     reader: &mut R,
     writer: &mut W,
+    audits: bool,
 ) -> Result<PlayEnd, ToolError>
-    ensures { Serves (R.remaining reader.old) (R.remaining reader.new) (W.contents writer.old)
+    ensures { Serves audits (R.remaining reader.old) (R.remaining reader.new) (W.contents writer.old)
         (W.contents writer.new) result }
 {
     let mut head = Vec::new(alloc);
     read_head(reader, &mut head)?;
     match read_opening(alloc, head.as_slice()) {
         Ok((opening, known)) => {
-            let mut session = Session::new(alloc, opening, known)?;
+            let mut session = Session::new(alloc, opening, known, audits)?;
             write_answer(writer, String::new(alloc))?;
             serve_lines(alloc, &mut session, reader, writer)
         }
@@ -248,18 +251,19 @@ fn tell_fault<W: Write>(alloc: Global, writer: &mut W, fault: Fault) -> Result<(
 }
 
 impl<'t> Session<'t> {
-    /// The new master of the cluster that a head makes.
+    /// The new master of the cluster that a head makes; with `audits` its last wave is kept.
     pub fn new(
         alloc: Global,
         opening: ScriptText<'t>,
         known: KnownLines<'t>,
+        audits: bool,
     ) -> Result<Session<'t>, AllocError>
         requires fit { IsFitHead opening.head }
         requires of_head { IsOfHead opening.head opening.script }
         requires opening { (text : Line) × IsOpening text opening known }
         ensures ready { IfOk result IsOpen }
         ensures opened { IfOk result (λ session. (text : Line) → IsOpening text opening.entry known.entry
-            → IsOpened text (live_of session)) }
+            → IsOpened audits text (live_of session)) }
     {
         let ScriptText { head, script } = opening;
         let draft = draft_of(alloc, &script.names)?;
@@ -270,6 +274,7 @@ impl<'t> Session<'t> {
             script,
             master,
             given,
+            audits,
             last: None,
             draft,
         })
@@ -299,8 +304,10 @@ impl<'t> Session<'t> {
         ensures ok { OnOk result (PerformedLive self.old command.now (string_bytes answer.old)
             (string_bytes answer.new) self.new) }
     {
-        if let Command::Wave = command {
-            return self.start_wave(alloc, answer);
+        if self.audits {
+            if let Command::Wave = command {
+                return self.start_wave(alloc, answer);
+            }
         }
         let (master, given) = (&mut self.master, &mut self.given);
         match perform(alloc, master, given, &self.script, command, answer) {
@@ -313,6 +320,7 @@ impl<'t> Session<'t> {
     // Starts the best wave, and keeps it for an audit.
     fn start_wave(&mut self, alloc: Global, answer: &mut String) -> Result<(), AllocError>
         requires ready { IsOpen self.old }
+        requires audits { self.old.audits ≡ true }
         ensures ready { OnOk result (IsOpen self.new) }
         ensures ok { OnOk result (PerformedLive self.old command.Wave (string_bytes answer.old)
             (string_bytes answer.new) self.new) }
@@ -390,7 +398,10 @@ impl<'t> Session<'t> {
         let problem = self.master.problem(alloc)?;
         let pairs = pairs_of(alloc, &plan)?;
         match self.master.commit_plan(alloc, &plan, &prices) {
-            Ok(wave) => self.tell_started(problem, plan, prices, &pairs, wave, answer),
+            Ok(wave) if self.audits => {
+                self.tell_started(problem, plan, prices, &pairs, wave, answer)
+            }
+            Ok(wave) => tell_wave(answer, &self.script.names, wave, &pairs),
             Err(CommitError::HistoryFull) => add_ignored(answer, Why::HistoryFull),
             Err(CommitError::Stale(condition)) => {
                 let names = &self.script.names;

@@ -17,7 +17,9 @@ use crate::console::Console;
 use crate::terminal::Terminal;
 use answer_notes::Listening;
 use command_line::ask;
-use command_line::asked::{Ask, AskError, CheckOptions, PlanOptions, PlayOptions, RunOptions};
+use command_line::asked::{
+    Ask, AskError, CheckOptions, PlanOptions, PlayOptions, RunOptions, ServeOptions,
+};
 use command_runner::ToolError;
 use explanations::Entry;
 use job_play::{PlayEnd, play_observed};
@@ -96,7 +98,7 @@ fn run_command(
         Ask::Check(options) => run_check(rt, threads, options),
         Ask::Plan(options) => run_plan(rt, options),
         Ask::Play(options) => run_play(rt, options),
-        Ask::Serve => run_serve(rt),
+        Ask::Serve(options) => run_serve(rt, options),
         Ask::Run(options) => run_beside(rt, threads, options),
         Ask::Explain(entry) => run_explain(rt, entry),
     }
@@ -142,12 +144,12 @@ fn run_play(rt: &HostRuntime, options: PlayOptions) -> Ending {
 }
 
 // Each answer is flushed before the next line is read.
-fn run_serve(rt: &HostRuntime) -> Ending {
+fn run_serve(rt: &HostRuntime, options: ServeOptions) -> Ending {
     let mut output = Console::new(rt, Aside::new(rt, false).writer());
     match BufReader::new(rt.alloc(), rt.stdin()) {
         Ok(reader) => {
             let mut input = reader;
-            let end = serve(rt.alloc(), &mut input, &mut output);
+            let end = serve(rt.alloc(), &mut input, &mut output, !options.no_audit);
             or_left(of_play(end), output.writer())
         }
         Err(_) => Ending::Failed(ToolError::Memory),

@@ -12,17 +12,17 @@ use Rattle.live_master.proofs.serving.serve.Goals as goal
 
 pub returns-in_err-read_head : goal.returns-in_err-read_head
 returns-in_err-read_head g c =
-    unopened _ _ _ _ c.from_residual.result c.in_err-read_head.field-0.0 c.in_err-read_head.ensures.err
+    unopened _ _ _ _ _ c.from_residual.result c.in_err-read_head.field-0.0 c.in_err-read_head.ensures.err
     c.from_residual.ensures.1 (Keeps-refl _)
 
 pub returns-in_err-session-in-Ok : goal.returns-in_err-session-in-Ok
 returns-in_err-session-in-Ok g c =
-    unopened _ _ _ _ c.from_residual-in_err-session-in-Ok.result tool.Memory tt
+    unopened _ _ _ _ _ c.from_residual-in_err-session-in-Ok.result tool.Memory tt
     c.from_residual-in_err-session-in-Ok.ensures.1 (Keeps-refl _)
 
 pub returns-in_err-write_answer-in-Ok : goal.returns-in_err-write_answer-in-Ok
 returns-in_err-write_answer-in-Ok g c =
-    ungreeted _ _ _ _ c.from_residual-in_err-write_answer-in-Ok.result _ c.in_err-write_answer-in-Ok.field-0.0
+    ungreeted _ _ _ _ _ c.from_residual-in_err-write_answer-in-Ok.result _ c.in_err-write_answer-in-Ok.field-0.0
     c.from_residual-in_err-write_answer-in-Ok.ensures.1 c.in_err-write_answer-in-Ok.ensures
 
 pub returns-in-Ok : goal.returns-in-Ok
@@ -34,7 +34,8 @@ returns-in-Ok g c = inr (record {
   greeted = record {
     text = _;
     head = c.in_ok-read_head.ensures.ok;
-    opened = subst (λ (t : List ℕ). IsOpened t (live_of c.in_ok-session-in-Ok.session)) c.as_slice.ensures.value
+    opened = subst (λ (t : List ℕ). IsOpened c.args.audits t (live_of c.in_ok-session-in-Ok.session))
+        c.as_slice.ensures.value
         (c.in_ok-session-in-Ok.ensures.opened _ c.in-Ok.ensures.ok);
     greeted = subst (λ (t : List ℕ). Appends (g.W.Write.contents c.args.writer.now)
         (g.W.Write.contents c.write_answer.new.writer) (closed t)) c.new-in-Ok.ensures.bytes
@@ -45,7 +46,7 @@ returns-in-Ok g c = inr (record {
 
 pub returns-in_err-line-in-Err : goal.returns-in_err-line-in-Err
 returns-in_err-line-in-Err g c =
-    unopened _ _ _ _ c.from_residual-in_err-line-in-Err.result tool.Memory tt
+    unopened _ _ _ _ _ c.from_residual-in_err-line-in-Err.result tool.Memory tt
     c.from_residual-in_err-line-in-Err.ensures.1 (Keeps-refl _)
 
 pub returns : goal.returns
