@@ -1,7 +1,7 @@
 -- Where no worker has more places than free slots, the heads of a plan ahead are the whole plan: a wave.
-use Rattle.std.proofs.Common.{◌≡◌, ℕ, zero, suc, ◌+◌, ◌<◌, ◌≤◌, ◌==◌, List, [], ◌∷◌, length, map, cond}
-use Rattle.std.proofs.Common.{Option, None, Some, refl, sym, ap, ◌∙◌, arith, subst}
-use Rattle.std.specs.Prelude.{max, min, slice_index_or}
+use Rattle.std.proofs.Common.{◌≡◌, ℕ, suc, ◌+◌, ◌≤◌, ◌==◌, List, [], ◌∷◌, length, cond}
+use Rattle.std.proofs.Common.{Option, None, Some, refl, sym, ap, arith, subst}
+use Rattle.std.specs.Prelude.{max, slice_index_or}
 use Rattle.std.proofs.Math.Nat.{min-le_left}
 use Rattle.std.proofs.lemmas.Bool.{eq-eqb}
 use Rattle.std.proofs.lemmas.List.Sums.{sum_by-cons}
@@ -11,8 +11,7 @@ use Rattle.wave_problem.specs.Wave.{Wave, worker_at, worker_in}
 use Rattle.wave_problem.specs.Assignment.{IsBest, load, pairs_from, pairs_of, start_of}
 use Rattle.price_certificate.specs.Certificate.{Certifies, claim}
 use Rattle.price_certificate.specs.PriceList.{PriceList}
-use Rattle.master_state.specs.States.{Setup, State}
-use Rattle.master_state.specs.Steps.{HasPrices, IsAhead, IsWave, problem_of, queue_lines, with_places}
+use Rattle.master_state.specs.Steps.{HasPrices, problem_of, queue_lines, with_places}
 use Rattle.master_state.specs.Laws.{AheadOntoFreeSlotsIsAWave}
 
 some_same : (u v : ℕ) → Some u ≡ Some v → u ≡ v
