@@ -12,12 +12,12 @@ use Rattle.tree_planner.specs.declared.reached.Reached.{Reached}
 use Rattle.tree_planner.specs.declared.nearest.Candidate.{Candidate}
 use Rattle.tree_planner.specs.declared.search.Ground.{Ground}
 use Rattle.tree_planner.specs.declared.search.Search.{Search}
-use Rattle.tree_planner.specs.Searching.{cover_at, far_at, floor_at, order_at, place_at, reached_at, step_at}
-use Rattle.tree_planner.specs.Searching.{AreFloorsNew, Improves, IsCandidate, IsGround, IsNearer, IsNearest}
+use Rattle.tree_planner.specs.Searching.{far_at, floor_at, order_at, place_at, reached_at}
+use Rattle.tree_planner.specs.Searching.{AreFloorsNew, Improves, IsCandidate, IsGround, IsNearest}
 use Rattle.tree_planner.specs.Searching.{IsSearching}
 use Rattle.tree_planner.specs.Reaching.{floor_in, IsLowest}
 use Rattle.tree_planner.proofs.Counted.{open_count}
-use Rattle.tree_planner.proofs.Improved.{cover_kept, ends_kept, leads_kept}
+use Rattle.tree_planner.proofs.Improved.{turned_improves, turned_kept}
 use Rattle.tree_planner.proofs.Looked.{least_of_all}
 
 -- of the first n blocks none has a lower floor, if it is below a distance, and no other one than the next
@@ -34,62 +34,18 @@ abbrev pub below : ℕ → List ℕ → ℕ
 below b floors = sum_by (λ m. b - m) floors
 
 module _ (old new : Search) (rest : AreFloorsNew old new) where
-  abbrev raised : Search
-  raised = record old { reached = record old.reached { floors = new.reached.floors } }
-
-  raised_nearer : IsNearer old raised
-  raised_nearer = record {
-    split = refl;
-    least = refl;
-    limit = refl;
-    bound = omega arith;
-    far = λ v. omega arith;
-    settled = λ u some. refl;
-  }
-
   pub raised_improves : Improves old new
-  raised_improves = subst (λ m. Improves old m) (sym rest) (record {
-    nearer = raised_nearer;
-    looked = refl;
-    order = refl;
-  })
+  raised_improves = subst (λ m. Improves old m) (sym rest)
+      (turned_improves old old.bound old.goal old.covers old.lows new.reached (omega arith))
 
   pub floors_kept : (g : Ground) → IsSearching g old
       → length new.reached.floors.items ≡ length old.reached.floors.items
       → ((v : TreeNode) → far_at old v < 2 ^ 60 → order_at old v ≡ 0
       → floor_at new (place_at old v) ≤ far_at old v)
       → IsSearching g new
-  floors_kept g s size low = subst (λ m. IsSearching g m) (sym rest) (record {
-    tables = record {
-      far = s.tables.far;
-      how = s.tables.how;
-      order = s.tables.order;
-      places = s.tables.places;
-      covers = s.tables.covers;
-    };
-    reached = record {
-      room = s.reached.room;
-      blocks = (let blocks = s.reached.blocks in omega arith);
-      known = s.reached.known;
-      near = s.reached.near;
-      once = s.reached.once;
-      placed = s.reached.placed;
-      looked = s.reached.looked;
-    };
-    room = s.room;
-    fit = s.fit;
-    floors = low;
-    limit = s.limit;
-    bound = s.bound;
-    few = s.few;
-    steps = λ v less. leads_kept old raised raised_nearer (λ u x b. b) (λ u some. some) g v (far_at old v)
-        (step_at old v) (s.steps v less);
-    level = s.level;
-    goal = ends_kept old raised raised_nearer (λ u x b. b) (λ u some. some) g old.bound old.goal s.goal;
-    bottom = s.bottom;
-    covered = λ u. cover_kept old raised raised_nearer g (cover_at old u) u (s.covered u);
-    low = s.low;
-  })
+  floors_kept g s size low = subst (λ m. IsSearching g m) (sym rest)
+      (turned_kept old old.bound old.goal old.covers old.lows new.reached (omega arith) g s
+      (record { workers = refl; racks = refl; centres = refl }) size low s.goal s.covered s.low)
 
 -- the search has looked from as many nodes
 pub open_same : (old new : Search) (nodes : List TreeNode) → AreFloorsNew old new

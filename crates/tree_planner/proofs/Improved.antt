@@ -27,7 +27,9 @@ use Rattle.tree_planner.specs.Searching.{order_at, far_at, step_at, state_at, wa
 use Rattle.tree_planner.specs.Searching.{cover_at, next_price, EndsInSlot, HasLookedFrom, IsCovered, IsFound}
 use Rattle.tree_planner.specs.Searching.{IsOpenAt, IsRest}
 use Rattle.tree_planner.specs.declared.covers.Cover.{Cover}
+use Rattle.tree_planner.specs.declared.lows.Lows.{Lows}
 use Rattle.tree_planner.specs.Covers.{no_cover}
+use Rattle.tree_planner.specs.Lows.{AreLow}
 use Rattle.tree_planner.specs.Searching.{HasStarted, IsStartedAt, Improves, IsAt, IsBefore, IsDown, IsLastOne}
 use Rattle.tree_planner.specs.Searching.{IsNearer, IsNearest, IsSearching, LeadsTo, Settles}
 use Rattle.tree_flow.specs.Table.{at_or, IsOver, IsSized}
@@ -473,36 +475,51 @@ module _ (old : Search) (far : NodeTable ℕ) (how : NodeTable Step) (node : Tre
       (subst (λ goal. EndsIn g reached old.bound goal) (sym goal)
       (ends_kept old reached reach_nearer (λ u x b. b) (λ u some. some) g old.bound old.goal s.goal))
 
--- an end of a way that was come to nearer
-module _ (old : Search) (goal : Goal) (distance : ℕ) (bound : distance < old.bound) where
-  abbrev arrived : Search
-  arrived = record old { bound = distance; goal = goal }
+-- another bound with its goal, other covers, lows and floors
+module _ (old : Search) (bound : ℕ) (goal : Goal) (covers : NodeTable Cover) (lows : Lows) (row : Reached)
+    (less : bound ≤ old.bound) where
+  abbrev pub turned : Search
+  turned = record old {
+    bound = bound;
+    goal = goal;
+    covers = covers;
+    lows = lows;
+    reached = record old.reached { floors = row.floors };
+  }
 
-  arrive_nearer : IsNearer old arrived
-  arrive_nearer = record {
+  turned_nearer : IsNearer old turned
+  turned_nearer = record {
     split = refl;
     least = refl;
     limit = refl;
-    bound = omega arith;
+    bound = less;
     far = λ v. omega arith;
     settled = λ u some. refl;
   }
 
-  pub arrive_improves : Improves old arrived
-  arrive_improves = record { nearer = arrive_nearer; looked = refl; order = refl }
+  pub turned_improves : Improves old turned
+  turned_improves = record { nearer = turned_nearer; looked = refl; order = refl }
 
-  pub arrive_kept : (g : Ground) → IsSearching g old → EndsIn g old distance goal → IsSearching g arrived
-  arrive_kept g s ends = record {
+  pub turned_kept : (g : Ground) → IsSearching g old → IsSized old.covers covers
+      → length row.floors.items ≡ length old.reached.floors.items
+      → ((v : TreeNode) → far_at old v < 2 ^ 60 → order_at old v ≡ 0
+      → floor_at turned (place_at old v) ≤ far_at old v)
+      → EndsIn g old bound goal → ((u : TreeNode) → IsCovered g old (at_or covers no_cover u) u)
+      → AreLow (wave_of g) (state_at g) lows → IsSearching g turned
+  turned_kept g s sized size floors ends covered low = record {
     tables = record {
       far = s.tables.far;
       how = s.tables.how;
       order = s.tables.order;
       places = s.tables.places;
-      covers = s.tables.covers;
+      covers = record {
+        racks = sized.racks ∙ s.tables.covers.racks;
+        centres = sized.centres ∙ s.tables.covers.centres;
+      };
     };
     reached = record {
       room = s.reached.room;
-      blocks = s.reached.blocks;
+      blocks = (let blocks = s.reached.blocks in omega arith);
       known = s.reached.known;
       near = s.reached.near;
       once = s.reached.once;
@@ -511,18 +528,25 @@ module _ (old : Search) (goal : Goal) (distance : ℕ) (bound : distance < old.b
     };
     room = s.room;
     fit = s.fit;
-    floors = s.floors;
+    floors = floors;
     limit = s.limit;
     bound = (let most = s.bound in omega arith);
     few = s.few;
-    steps = λ v less. leads_kept old arrived arrive_nearer (λ u x b. b) (λ u some. some) g v (far_at old v)
+    steps = λ v less. leads_kept old turned turned_nearer (λ u x b. b) (λ u some. some) g v (far_at old v)
         (step_at old v) (s.steps v less);
     level = s.level;
-    goal = ends_kept old arrived arrive_nearer (λ u x b. b) (λ u some. some) g distance goal ends;
+    goal = ends_kept old turned turned_nearer (λ u x b. b) (λ u some. some) g bound goal ends;
     bottom = λ w known some. (let past = s.bottom w known some in omega arith);
-    covered = λ u. cover_kept old arrived arrive_nearer g (cover_at old u) u (s.covered u);
-    low = s.low;
+    covered = λ u. cover_kept old turned turned_nearer g (at_or covers no_cover u) u (covered u);
+    low = low;
   }
+
+-- an end of a way that was come to nearer
+module _ (old : Search) (goal : Goal) (distance : ℕ) (bound : distance < old.bound) where
+  pub arrive_kept : (g : Ground) → IsSearching g old → EndsIn g old distance goal
+      → IsSearching g (record old { bound = distance; goal = goal })
+  arrive_kept g s ends = turned_kept old distance goal old.covers old.lows old.reached (omega arith) g s
+      (record { workers = refl; racks = refl; centres = refl }) refl s.floors ends s.covered s.low
 
 -- a node that is looked from next
 module _ (g : Ground) (old : Search) (order : NodeTable ℕ) (c : TreeNode) (s : IsSearching g old)
@@ -659,60 +683,14 @@ module _ (old : Search) (covers : NodeTable Cover) (node : TreeNode) (cover : Co
     (here : at_or covers no_cover node ≡ cover)
     (others : (u : TreeNode) → u ≢ node → at_or covers no_cover u ≡ at_or old.covers no_cover u)
     (sized : IsSized old.covers covers) where
-  abbrev covering : Search
-  covering = record old { covers = covers }
+  pub covered_improves : Improves old (record old { covers = covers })
+  covered_improves = turned_improves old old.bound old.goal covers old.lows old.reached (omega arith)
 
-  covered_nearer : IsNearer old covering
-  covered_nearer = record {
-    split = refl;
-    least = refl;
-    limit = refl;
-    bound = omega arith;
-    far = λ v. omega arith;
-    settled = λ u some. refl;
-  }
-
-  pub covered_improves : Improves old covering
-  covered_improves = record { nearer = covered_nearer; looked = refl; order = refl }
-
-  pub covered_kept : (g : Ground) → IsSearching g old → IsCovered g old cover node → IsSearching g covering
-  covered_kept g s covered = record {
-    tables = record {
-      far = s.tables.far;
-      how = s.tables.how;
-      order = s.tables.order;
-      places = s.tables.places;
-      covers = record {
-        racks = sized.racks ∙ s.tables.covers.racks;
-        centres = sized.centres ∙ s.tables.covers.centres;
-      };
-    };
-    reached = record {
-      room = s.reached.room;
-      blocks = s.reached.blocks;
-      known = s.reached.known;
-      near = s.reached.near;
-      once = s.reached.once;
-      placed = s.reached.placed;
-      looked = s.reached.looked;
-    };
-    room = s.room;
-    fit = s.fit;
-    floors = s.floors;
-    limit = s.limit;
-    bound = s.bound;
-    few = s.few;
-    steps = λ v less. leads_kept old covering covered_nearer (λ u x b. b) (λ u some. some) g v (far_at old v)
-        (step_at old v) (s.steps v less);
-    level = s.level;
-    goal = ends_kept old covering covered_nearer (λ u x b. b) (λ u some. some) g old.bound old.goal s.goal;
-    bottom = s.bottom;
-    covered = λ u. elim (same_or_not u node) [
-      | inl e ↦ subst (λ u. IsCovered g covering (cover_at covering u) u) (sym e)
-          (subst (λ cover. IsCovered g covering cover node) (sym here)
-          (cover_kept old covering covered_nearer g cover node covered))
-      | inr n ↦ subst (λ cover. IsCovered g covering cover u) (sym (others u n))
-          (cover_kept old covering covered_nearer g (cover_at old u) u (s.covered u))
-    ];
-    low = s.low;
-  }
+  pub covered_kept : (g : Ground) → IsSearching g old → IsCovered g old cover node
+      → IsSearching g (record old { covers = covers })
+  covered_kept g s covered = turned_kept old old.bound old.goal covers old.lows old.reached (omega arith) g s sized
+      refl s.floors s.goal (λ u. elim (same_or_not u node) [
+        | inl e ↦ subst (λ u. IsCovered g old (at_or covers no_cover u) u) (sym e)
+            (subst (λ cover. IsCovered g old cover node) (sym here) covered)
+        | inr n ↦ subst (λ cover. IsCovered g old cover u) (sym (others u n)) (s.covered u)
+      ]) s.low

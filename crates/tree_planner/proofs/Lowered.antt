@@ -14,9 +14,8 @@ use Rattle.tree_planner.specs.declared.lows.Lows.{Lows}
 use Rattle.tree_planner.specs.declared.search.Ground.{Ground}
 use Rattle.tree_planner.specs.declared.search.Search.{Search}
 use Rattle.tree_planner.specs.Lows.{low_at, no_low, AreLow, IsLow}
-use Rattle.tree_planner.specs.Searching.{cover_at, far_at, state_at, step_at, wave_of, Improves, IsNearer}
-use Rattle.tree_planner.specs.Searching.{IsSearching}
-use Rattle.tree_planner.proofs.Improved.{cover_kept, ends_kept, leads_kept}
+use Rattle.tree_planner.specs.Searching.{state_at, wave_of, Improves, IsSearching}
+use Rattle.tree_planner.proofs.Improved.{turned_improves, turned_kept}
 
 -- lows that say nothing
 pub none_low : (wave : Wave) (state : State) (lows : Lows) → ((s : ℕ) → low_at lows s ≡ no_low)
@@ -38,59 +37,17 @@ deeper_low wave old new lows deeper low s = record {
 -- a split has another low
 module _ (old : Search) (lows : Lows) (split : ℕ) (low : Low)
     (put : (s : ℕ) → (low_at lows s ≡ low_at old.lows s) ⊎ ((s ≡ split) × (low_at lows s ≡ low))) where
-  abbrev noting : Search
-  noting = record old { lows = lows }
-
-  noted_nearer : IsNearer old noting
-  noted_nearer = record {
-    split = refl;
-    least = refl;
-    limit = refl;
-    bound = omega arith;
-    far = λ v. omega arith;
-    settled = λ u some. refl;
-  }
-
-  pub noted_improves : Improves old noting
-  noted_improves = record { nearer = noted_nearer; looked = refl; order = refl }
+  pub noted_improves : Improves old (record old { lows = lows })
+  noted_improves = turned_improves old old.bound old.goal old.covers lows old.reached (omega arith)
 
   pub noted_kept : (g : Ground) → IsSearching g old → IsLow (wave_of g) (state_at g) split low
-      → IsSearching g noting
-  noted_kept g s is = record {
-    tables = record {
-      far = s.tables.far;
-      how = s.tables.how;
-      order = s.tables.order;
-      places = s.tables.places;
-      covers = s.tables.covers;
-    };
-    reached = record {
-      room = s.reached.room;
-      blocks = s.reached.blocks;
-      known = s.reached.known;
-      near = s.reached.near;
-      once = s.reached.once;
-      placed = s.reached.placed;
-      looked = s.reached.looked;
-    };
-    room = s.room;
-    fit = s.fit;
-    floors = s.floors;
-    limit = s.limit;
-    bound = s.bound;
-    few = s.few;
-    steps = λ v less. leads_kept old noting noted_nearer (λ u x b. b) (λ u some. some) g v (far_at old v)
-        (step_at old v) (s.steps v less);
-    level = s.level;
-    goal = ends_kept old noting noted_nearer (λ u x b. b) (λ u some. some) g old.bound old.goal s.goal;
-    bottom = s.bottom;
-    covered = λ u. cover_kept old noting noted_nearer g (cover_at old u) u (s.covered u);
-    low = λ t. elim (put t) [
-      | inl same ↦ subst (λ low. IsLow (wave_of g) (state_at g) t low) (sym same) (s.low t)
-      | inr here ↦ subst (λ low. IsLow (wave_of g) (state_at g) t low) (sym here.1)
-          (subst (λ t. IsLow (wave_of g) (state_at g) t low) (sym here.0) is)
-    ];
-  }
+      → IsSearching g (record old { lows = lows })
+  noted_kept g s is = turned_kept old old.bound old.goal old.covers lows old.reached (omega arith) g s
+      (record { workers = refl; racks = refl; centres = refl }) refl s.floors s.goal s.covered (λ t. elim (put t) [
+        | inl same ↦ subst (λ low. IsLow (wave_of g) (state_at g) t low) (sym same) (s.low t)
+        | inr here ↦ subst (λ low. IsLow (wave_of g) (state_at g) t low) (sym here.1)
+            (subst (λ t. IsLow (wave_of g) (state_at g) t low) (sym here.0) is)
+      ])
 
 -- no rack is at a worker
 above_worker : (tree : Tree) (r level h : ℕ) → is_under tree (Rack r) (node_above tree level h) ≡ true → 1 ≤ level
