@@ -64,31 +64,39 @@ module _ (wave : Wave) (old new : Tables) (split : ℕ) (place : Place) (a : Are
       listed = listed;
     }
 
--- one free slot of a worker less, counted on all nodes above it
-pub taken_tables : (wave : Wave) (old mid : Tables) (below : NodeTable ℕ) (w : ℕ) → AreTables wave old
+-- other free slots, as they are counted under the nodes, and other cursors
+counted_tables : (wave : Wave) (old mid : Tables) (below : NodeTable ℕ) (cursors : Cursors) → AreTables wave old
     → mid ≡ record old { free = mid.free } → length mid.free.items ≡ length old.free.items
-    → IsTaken wave (state_of old) (state_of mid) w → IsSized mid.below below
-    → ((v : TreeNode) → at_node mid.below v ≡ at_node below v + cond (is_under wave.tree (Worker w) v) 1 0)
-    → AreTables wave (record mid { below = below })
-taken_tables wave old mid below w a rest size taken sized less = record {
+    → IsSized mid.below below → ((v : TreeNode) → at_node below v ≡ sum_under wave v (state_of mid).free)
+    → AreTables wave (record mid { below = below; cursors = cursors })
+counted_tables wave old mid below cursors a rest size sized sums = record {
   places = ap (λ (t : Tables). length t.places.items) rest ∙ a.places;
   flow = subst (λ t. IsOver wave.tree t) (sym (ap (λ (t : Tables). t.flow) rest)) a.flow;
   depth = subst (λ t. IsOver wave.tree t) (sym (ap (λ (t : Tables). t.depth) rest)) a.depth;
   free = size ∙ a.free;
   below = over_sized wave.tree mid.below below
       (subst (λ t. IsOver wave.tree t) (sym (ap (λ (t : Tables). t.below) rest)) a.below) sized;
-  sums = λ v.
-      (let same = ap (λ (t : Tables). at_node t.below v) rest in
-      let was = a.sums v in
-      let fell = less v in
-      let sums = sum_less (length wave.workers) w (λ x. is_under wave.tree (Worker x) v) (state_of old).free
-      (state_of mid).free taken.known taken.here taken.others in
-      omega arith);
+  sums = sums;
   lists = subst (λ t. AreLists wave.tree (length wave.splits) t) (sym (ap (λ (t : Tables). t.standing) rest)) a.lists;
   known = λ s e stands. a.known s e (sym (ap (λ (t : Tables). place_of (state_of t) s) rest) ∙ stands);
   listed = λ s e stands. subst (λ t. HasListed t e.node s) (sym (ap (λ (t : Tables). t.standing) rest))
       (a.listed s e (sym (ap (λ (t : Tables). place_of (state_of t) s) rest) ∙ stands));
 }
+
+-- one free slot of a worker less, counted on all nodes above it
+pub taken_tables : (wave : Wave) (old mid : Tables) (below : NodeTable ℕ) (w : ℕ) → AreTables wave old
+    → mid ≡ record old { free = mid.free } → length mid.free.items ≡ length old.free.items
+    → IsTaken wave (state_of old) (state_of mid) w → IsSized mid.below below
+    → ((v : TreeNode) → at_node mid.below v ≡ at_node below v + cond (is_under wave.tree (Worker w) v) 1 0)
+    → AreTables wave (record mid { below = below })
+taken_tables wave old mid below w a rest size taken sized less =
+    counted_tables wave old mid below mid.cursors a rest size sized (λ v.
+    (let same = ap (λ (t : Tables). at_node t.below v) rest in
+    let was = a.sums v in
+    let fell = less v in
+    let sums = sum_less (length wave.workers) w (λ x. is_under wave.tree (Worker x) v) (state_of old).free
+    (state_of mid).free taken.known taken.here taken.others in
+    omega arith))
 
 -- one free slot of a worker more, counted on all nodes above it
 pub given_tables : (wave : Wave) (old mid : Tables) (below : NodeTable ℕ) (cursors : Cursors) (w : ℕ)
@@ -97,22 +105,11 @@ pub given_tables : (wave : Wave) (old mid : Tables) (below : NodeTable ℕ) (cur
     → IsTaken wave (state_of mid) (state_of old) w → IsSized mid.below below
     → ((v : TreeNode) → at_node below v ≡ at_node mid.below v + cond (is_under wave.tree (Worker w) v) 1 0)
     → AreTables wave (record mid { below = below; cursors = cursors })
-given_tables wave old mid below cursors w a rest size taken sized more = record {
-  places = ap (λ (t : Tables). length t.places.items) rest ∙ a.places;
-  flow = subst (λ t. IsOver wave.tree t) (sym (ap (λ (t : Tables). t.flow) rest)) a.flow;
-  depth = subst (λ t. IsOver wave.tree t) (sym (ap (λ (t : Tables). t.depth) rest)) a.depth;
-  free = size ∙ a.free;
-  below = over_sized wave.tree mid.below below
-      (subst (λ t. IsOver wave.tree t) (sym (ap (λ (t : Tables). t.below) rest)) a.below) sized;
-  sums = λ v.
-      (let same = ap (λ (t : Tables). at_node t.below v) rest in
-      let was = a.sums v in
-      let rose = more v in
-      let sums = sum_less (length wave.workers) w (λ x. is_under wave.tree (Worker x) v) (state_of mid).free
-      (state_of old).free taken.known taken.here taken.others in
-      omega arith);
-  lists = subst (λ t. AreLists wave.tree (length wave.splits) t) (sym (ap (λ (t : Tables). t.standing) rest)) a.lists;
-  known = λ s e stands. a.known s e (sym (ap (λ (t : Tables). place_of (state_of t) s) rest) ∙ stands);
-  listed = λ s e stands. subst (λ t. HasListed t e.node s) (sym (ap (λ (t : Tables). t.standing) rest))
-      (a.listed s e (sym (ap (λ (t : Tables). place_of (state_of t) s) rest) ∙ stands));
-}
+given_tables wave old mid below cursors w a rest size taken sized more =
+    counted_tables wave old mid below cursors a rest size sized (λ v.
+    (let same = ap (λ (t : Tables). at_node t.below v) rest in
+    let was = a.sums v in
+    let rose = more v in
+    let sums = sum_less (length wave.workers) w (λ x. is_under wave.tree (Worker x) v) (state_of mid).free
+    (state_of old).free taken.known taken.here taken.others in
+    omega arith))

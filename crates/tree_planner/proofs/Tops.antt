@@ -239,3 +239,15 @@ level_ends wave s e pending = (
           largest = subst (λ (l : ℕ). (e.node ≡ node_above wave.tree l h) ⊎ HasBarUnder wave s (parent wave.tree e.node))
               (sym level) t.largest;
         }
+
+-- what has an end for each of the holders has all ends
+pub ends_of_all : (wave : Wave) (s : ℕ) (e : End) (Has : Type 0) (holders : List ℕ) (k : ℕ)
+    → (split_at wave s).pending ≡ true → holders ≡ (split_at wave s).holders → k ≡ length holders
+    → Has ↔ ((j : ℕ) × (j < k) × IsLevelEnd wave s (get_or holders j 0) e) → Has ↔ IsEnd wave s e
+ends_of_all wave s e Has holders k pending same all has =
+    let ends : ((j : ℕ) × (j < length holders) × IsLevelEnd wave s (get_or holders j 0) e) ↔ IsEnd wave s e =
+    subst (λ xs. ((j : ℕ) × (j < length xs) × IsLevelEnd wave s (get_or xs j 0) e) ↔ IsEnd wave s e) (sym same)
+    (level_ends wave s e pending) in
+    let each : Has ↔ ((j : ℕ) × (j < length holders) × IsLevelEnd wave s (get_or holders j 0) e) =
+    subst (λ n. Has ↔ ((j : ℕ) × (j < n) × IsLevelEnd wave s (get_or holders j 0) e)) all has in
+    (λ h. ends.0 (each.0 h), λ is. each.1 (ends.1 is))

@@ -1,7 +1,6 @@
-use Rattle.std.proofs.Common.{◌≡◌, ℕ, ◌<◌, ◌↔◌, get_or, length, sym, subst, arith}
+use Rattle.std.proofs.Common.{ℕ, get_or, arith}
 use Rattle.tree_planner.specs.Bars.{HasEndFor, IsLevelEnd}
-use Rattle.tree_flow.specs.Nodes.{IsEnd}
-use Rattle.tree_planner.proofs.Tops.{from_below, level_ends}
+use Rattle.tree_planner.proofs.Tops.{ends_of_all, from_below}
 use Rattle.tree_planner.proofs.split_ends.groups_with.Goals as goal
 
 pub loop-k-preserved : goal.loop-k-preserved
@@ -16,19 +15,8 @@ add_holder-requires-clause-before c = λ j e l end. (c.loop-k.invariant e).1 (j,
 
 pub returns : goal.returns
 returns c = λ e.
-    (let wave = c.args.problem.now in
-    let s = c.args.split in
-    let past = c.loop-k-test.false in
+    (let past = c.loop-k-test.false in
     let within = c.loop-k.auto.k-end in
-    let all : c.loop-k.k ≡ length c.holders-holders.result.now = omega arith in
-    let i = c.loop-k.invariant e in
-    let ends = level_ends wave s e c.requires.pending in
-    let found : ((k : ℕ) × (k < length c.holders-holders.result.now)
-    × IsLevelEnd wave s (get_or c.holders-holders.result.now k 0) e) ↔ IsEnd wave s e =
-    subst (λ xs. ((k : ℕ) × (k < length xs) × IsLevelEnd wave s (get_or xs k 0) e) ↔ IsEnd wave s e)
-    (sym c.holders-holders.ensures.holders) ends in
-    let held : HasEndFor wave s c.loop-k.groups.items e ↔ ((k : ℕ) × (k < length c.holders-holders.result.now)
-    × IsLevelEnd wave s (get_or c.holders-holders.result.now k 0) e) =
-    subst (λ n. HasEndFor wave s c.loop-k.groups.items e ↔ ((k : ℕ) × (k < n)
-    × IsLevelEnd wave s (get_or c.holders-holders.result.now k 0) e)) all i in
-    (λ has. found.0 (held.0 has), λ is. held.1 (found.1 is)))
+    ends_of_all c.args.problem.now c.args.split e (HasEndFor c.args.problem.now c.args.split c.loop-k.groups.items e)
+    c.holders-holders.result.now c.loop-k.k c.requires.pending c.holders-holders.ensures.holders
+    (omega arith) (c.loop-k.invariant e))
