@@ -34,6 +34,7 @@ use Rattle.tree_planner.specs.Searching.{HasStarted, IsStartedAt, Improves, IsAt
 use Rattle.tree_planner.specs.Searching.{IsNearer, IsNearest, IsSearching, LeadsTo, Settles}
 use Rattle.tree_flow.specs.Table.{at_or, IsOver, IsSized}
 use Rattle.tree_flow.proofs.Moved.{same_or_not}
+use Rattle.tree_planner.proofs.Ordered.{few_next, first_next, last_next, open_before, some_later}
 
 pub improves_refl : (s : Search) → Improves s s
 improves_refl s = record {
@@ -172,15 +173,6 @@ module _ (old new : Search) (i : IsNearer old new) where
       start_kept g x (started x (subst (λ s. IsEnd (wave_of g) s x) i.split is))
 
 module _ (old new : Search) (i : Improves old new) where
-  pub before_same : (u x : TreeNode) → IsBefore old u x → IsBefore new u x
-  before_same u x b = (
-    (let one = same_order old new i u in let some = b.0 in omega arith),
-    elim b.1 [
-      | inl none ↦ inl (same_order old new i x ∙ none)
-      | inr less ↦ inr (let one = same_order old new i u in let two = same_order old new i x in omega arith)
-    ],
-  )
-
   pub some_same : (u : TreeNode) → 0 < order_at old u → 0 < order_at new u
   some_same u some = (let one = same_order old new i u in omega arith)
 
@@ -566,39 +558,18 @@ module _ (g : Ground) (old : Search) (order : NodeTable ℕ) (c : TreeNode) (s :
     settled = λ u some. refl;
   }
 
-  other : (u : TreeNode) → 0 < order_at old u → u ≢ c
-  other u some e = (let none = fresh in let a = ap (order_at old) e in omega arith)
-
   before_next : (u x : TreeNode) → IsBefore old u x → IsBefore settled u x
-  before_next u x b =
-      let same = others u (other u b.0) in
-      let few = s.few u in
-      let some = b.0 in (
-        omega arith,
-        elim (same_or_not x c) [
-          | inl e ↦ inr (let a = ap (order_at settled) e in omega arith)
-          | inr n ↦ (let as_it_was = others x n in elim b.1 [
-            | inl none ↦ inl (omega arith)
-            | inr less ↦ inr (omega arith)
-          ])
-        ],
-      )
+  before_next = first_next old.order order old.looked c s.few fresh here others
 
   some_next : (u : TreeNode) → 0 < order_at old u → 0 < order_at settled u
-  some_next u some = (let same = others u (other u some) in omega arith)
+  some_next = some_later old.order order old.looked c s.few fresh here others
 
   was_open : (v : TreeNode) → order_at settled v ≡ 0 → order_at old v ≡ 0
-  was_open v none = elim (same_or_not v c) [
-    | inl e ↦ absurd (let a = ap (order_at settled) e in omega arith)
-    | inr n ↦ (let same = others v n in omega arith)
-  ]
+  was_open = open_before old.order order old.looked c s.few fresh here others
 
   -- no node that was looked from is farther than it, and none that was not is nearer
   settled-le : (u : TreeNode) → 0 < order_at settled u → far_at old u ≤ far_at old c
-  settled-le u some = elim (same_or_not u c) [
-    | inl e ↦ (let a = ap (far_at old) e in omega arith)
-    | inr n ↦ (let same = others u n in s.level u c (omega arith) fresh)
-  ]
+  settled-le = last_next old.order order old.looked c s.few fresh here others (far_at old) s.level
 
   settle_steps : (v : TreeNode) → far_at old v < old.limit → LeadsTo g settled v (far_at old v) (step_at old v)
   settle_steps v less = leads_kept old settled settle_nearer before_next some_next g v (far_at old v) (step_at old v)
@@ -630,10 +601,7 @@ module _ (g : Ground) (old : Search) (order : NodeTable ℕ) (c : TreeNode) (s :
     floors = λ v near none. s.floors v near (was_open v none);
     limit = s.limit;
     bound = s.bound;
-    few = λ v. elim (same_or_not v c) [
-      | inl e ↦ (let a = ap (order_at settled) e in omega arith)
-      | inr n ↦ (let same = others v n in let few = s.few v in omega arith)
-    ];
+    few = few_next old.order order old.looked c s.few fresh here others;
     steps = settle_steps;
     level = λ u v some none.
         (let one = settled-le u some in let two = nearest.least v (was_open v none) in omega arith);

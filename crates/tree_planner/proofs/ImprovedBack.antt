@@ -21,6 +21,7 @@ use Rattle.tree_planner.specs.SearchingBack.{IsSearching, LeadsTo}
 use Rattle.tree_planner.specs.SearchingBack.{Settles}
 use Rattle.tree_flow.specs.Table.{at_or, IsOver}
 use Rattle.tree_flow.proofs.Moved.{same_or_not}
+use Rattle.tree_planner.proofs.Ordered.{few_next, first_next, last_next, open_before, some_later}
 use Rattle.tree_planner.proofs.Rowed.{row_noted, row_short}
 
 pub improves_refl : (s : SearchBack) → Improves s s
@@ -139,15 +140,6 @@ module _ (old new : SearchBack) (i : IsNearer old new) where
   }
 
 module _ (old new : SearchBack) (i : Improves old new) where
-  pub before_same : (u x : TreeNode) → IsBefore old u x → IsBefore new u x
-  before_same u x b = (
-    (let one = same_order old new i u in let some = b.0 in omega arith),
-    elim b.1 [
-      | inl none ↦ inl (same_order old new i x ∙ none)
-      | inr less ↦ inr (let one = same_order old new i u in let two = same_order old new i x in omega arith)
-    ],
-  )
-
   pub some_same : (u : TreeNode) → 0 < order_at old u → 0 < order_at new u
   some_same u some = (let one = same_order old new i u in omega arith)
 
@@ -306,39 +298,18 @@ module _ (h : Hollow) (old : SearchBack) (order : NodeTable ℕ) (c : TreeNode) 
     settled = λ u some. refl;
   }
 
-  other : (u : TreeNode) → 0 < order_at old u → u ≢ c
-  other u some e = (let none = nearest.fresh in let a = ap (order_at old) e in omega arith)
-
   before_next : (u x : TreeNode) → IsBefore old u x → IsBefore settled u x
-  before_next u x b =
-      let same = others u (other u b.0) in
-      let few = s.few u in
-      let some = b.0 in (
-        omega arith,
-        elim (same_or_not x c) [
-          | inl e ↦ inr (let a = ap (order_at settled) e in omega arith)
-          | inr n ↦ (let as_it_was = others x n in elim b.1 [
-            | inl none ↦ inl (omega arith)
-            | inr less ↦ inr (omega arith)
-          ])
-        ],
-      )
+  before_next = first_next old.order order old.looked c s.few nearest.fresh here others
 
   some_next : (u : TreeNode) → 0 < order_at old u → 0 < order_at settled u
-  some_next u some = (let same = others u (other u some) in omega arith)
+  some_next = some_later old.order order old.looked c s.few nearest.fresh here others
 
   was_open : (v : TreeNode) → order_at settled v ≡ 0 → order_at old v ≡ 0
-  was_open v none = elim (same_or_not v c) [
-    | inl e ↦ absurd (let a = ap (order_at settled) e in omega arith)
-    | inr n ↦ (let same = others v n in omega arith)
-  ]
+  was_open = open_before old.order order old.looked c s.few nearest.fresh here others
 
   -- no node that was looked from is farther than it, and none that was not is nearer
   settled-le : (u : TreeNode) → 0 < order_at settled u → far_at old u ≤ far_at old c
-  settled-le u some = elim (same_or_not u c) [
-    | inl e ↦ (let a = ap (far_at old) e in omega arith)
-    | inr n ↦ (let same = others u n in s.level u c (omega arith) nearest.fresh)
-  ]
+  settled-le = last_next old.order order old.looked c s.few nearest.fresh here others (far_at old) s.level
 
   pub settle_kept : IsSearching h settled
   settle_kept = record {
@@ -356,10 +327,7 @@ module _ (h : Hollow) (old : SearchBack) (order : NodeTable ℕ) (c : TreeNode) 
     };
     bound = s.bound;
     most = s.most;
-    few = λ v. elim (same_or_not v c) [
-      | inl e ↦ (let a = ap (order_at settled) e in omega arith)
-      | inr n ↦ (let same = others v n in let few = s.few v in omega arith)
-    ];
+    few = few_next old.order order old.looked c s.few nearest.fresh here others;
     start = s.start;
     steps = λ v less. leads_kept old settled settle_nearer before_next some_next h v (far_at old v)
         (step_at old v)

@@ -2,6 +2,7 @@ pub mod Listed
 pub mod Alike
 pub mod Gained
 pub mod Added
+pub mod Ordered
 pub mod Improved
 pub mod Counted
 pub mod Room
