@@ -190,21 +190,33 @@ module _ (old new : Search) (i : Improves old new) where
         omega arith);
   }
 
+nearer_trans : (a b c : Search) → IsNearer a b → IsNearer b c
+    → ((u : TreeNode) → 0 < order_at a u → 0 < order_at b u) → IsNearer a c
+nearer_trans a b c i j some = record {
+  split = j.split ∙ i.split;
+  least = j.least ∙ i.least;
+  limit = j.limit ∙ i.limit;
+  bound = (let one = i.bound in let two = j.bound in omega arith);
+  far = λ v. (let one = i.far v in let two = j.far v in omega arith);
+  settled = λ u come. j.settled u (some u come) ∙ i.settled u come;
+}
+
 pub improves_trans : (a b c : Search) → Improves a b → Improves b c → Improves a c
 improves_trans a b c i j = record {
-  nearer = record {
-    split = j.nearer.split ∙ i.nearer.split;
-    least = j.nearer.least ∙ i.nearer.least;
-    limit = j.nearer.limit ∙ i.nearer.limit;
-    bound = (let one = i.nearer.bound in let two = j.nearer.bound in omega arith);
-    far = λ v. (let one = i.nearer.far v in let two = j.nearer.far v in omega arith);
-    settled = λ u some.
-        (let one = i.nearer.settled u some in
-        let two = j.nearer.settled u (some_same a b i u some) in
-        omega arith);
-  };
+  nearer = nearer_trans a b c i.nearer j.nearer (some_same a b i);
   looked = j.looked ∙ i.looked;
   order = j.order ∙ i.order;
+}
+
+pub settles_then : (a b c : Search) (v : TreeNode) → Settles a b v → Improves b c → Settles a c v
+settles_then a b c v s i = record {
+  nearer = nearer_trans a b c s.nearer i.nearer (λ u some. elim (same_or_not u v) [
+    | inl e ↦ (let a = ap (order_at b) e in let now = s.here in omega arith)
+    | inr n ↦ (let same = s.others u n in omega arith)
+  ]);
+  looked = i.looked ∙ s.looked;
+  here = same_order b c i v ∙ s.here;
+  others = λ u n. same_order b c i u ∙ s.others u n;
 }
 
 -- a node that was come to nearer
@@ -631,20 +643,8 @@ module _ (g : Ground) (old : Search) (order : NodeTable ℕ) (c : TreeNode) (s :
     last = settled-le;
   }
 
-  pub settles_then : (new : Search) → Improves settled new → Settles old new c
-  settles_then new i = record {
-    nearer = record {
-      split = i.nearer.split;
-      least = i.nearer.least;
-      limit = i.nearer.limit;
-      bound = i.nearer.bound;
-      far = i.nearer.far;
-      settled = λ u some. i.nearer.settled u (some_next u some);
-    };
-    looked = i.looked;
-    here = same_order settled new i c ∙ here;
-    others = λ v n. same_order settled new i v ∙ others v n;
-  }
+  pub settle_settles : Settles old settled c
+  settle_settles = record { nearer = settle_nearer; looked = refl; here = here; others = others }
 
 -- more is known of the nodes that hang from one node
 module _ (old : Search) (covers : NodeTable Cover) (node : TreeNode) (cover : Cover)

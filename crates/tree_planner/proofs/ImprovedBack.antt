@@ -156,18 +156,30 @@ module _ (old new : SearchBack) (i : Improves old new) where
         omega arith);
   }
 
+nearer_trans : (a b c : SearchBack) → IsNearer a b → IsNearer b c
+    → ((u : TreeNode) → 0 < order_at a u → 0 < order_at b u) → IsNearer a c
+nearer_trans a b c i j some = record {
+  bound = (let one = i.bound in let two = j.bound in omega arith);
+  far = λ v. (let one = i.far v in let two = j.far v in omega arith);
+  settled = λ u come. j.settled u (some u come) ∙ i.settled u come;
+}
+
 pub improves_trans : (a b c : SearchBack) → Improves a b → Improves b c → Improves a c
 improves_trans a b c i j = record {
-  nearer = record {
-    bound = (let one = i.nearer.bound in let two = j.nearer.bound in omega arith);
-    far = λ v. (let one = i.nearer.far v in let two = j.nearer.far v in omega arith);
-    settled = λ u some.
-        (let one = i.nearer.settled u some in
-        let two = j.nearer.settled u (some_same a b i u some) in
-        omega arith);
-  };
+  nearer = nearer_trans a b c i.nearer j.nearer (some_same a b i);
   looked = j.looked ∙ i.looked;
   order = j.order ∙ i.order;
+}
+
+pub settles_then : (a b c : SearchBack) (v : TreeNode) → Settles a b v → Improves b c → Settles a c v
+settles_then a b c v s i = record {
+  nearer = nearer_trans a b c s.nearer i.nearer (λ u some. elim (same_or_not u v) [
+    | inl e ↦ (let a = ap (order_at b) e in let now = s.here in omega arith)
+    | inr n ↦ (let same = s.others u n in omega arith)
+  ]);
+  looked = i.looked ∙ s.looked;
+  here = same_order b c i v ∙ s.here;
+  others = λ u n. same_order b c i u ∙ s.others u n;
 }
 
 -- a node that was come to nearer
@@ -345,14 +357,5 @@ module _ (h : Hollow) (old : SearchBack) (order : NodeTable ℕ) (c : TreeNode) 
     last = settled-le;
   }
 
-  pub settles_then : (new : SearchBack) → Improves settled new → Settles old new c
-  settles_then new i = record {
-    nearer = record {
-      bound = i.nearer.bound;
-      far = i.nearer.far;
-      settled = λ u some. i.nearer.settled u (some_next u some);
-    };
-    looked = i.looked;
-    here = same_order settled new i c ∙ here;
-    others = λ v n. same_order settled new i v ∙ others v n;
-  }
+  pub settle_settles : Settles old settled c
+  settle_settles = record { nearer = settle_nearer; looked = refl; here = here; others = others }

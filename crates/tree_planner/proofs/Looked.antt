@@ -22,8 +22,7 @@ use Rattle.tree_planner.specs.Searching.{EndsIn, HasStarted, IsSearched}
 use Rattle.tree_planner.specs.Reaching.{floor_in}
 use Rattle.tree_planner.specs.Searching.{place_at, IsDown, IsGround, IsNearest, IsSearching, Settles}
 use Rattle.tree_flow.specs.Table.{IsOver}
-use Rattle.tree_planner.proofs.Improved.{improves_trans, some_same, down_kept, settle_kept, settle_at, settle_found}
-use Rattle.tree_planner.proofs.Improved.{settles_then}
+use Rattle.tree_planner.proofs.Improved.{improves_trans, some_same, down_kept, settle_found}
 
 -- what holds at each place of a list holds of each element of it
 pub at_each : {X : Type 0} (xs : List X) (d : X) (P : X → Type 0)
@@ -49,19 +48,7 @@ least_of_all g search far ground s most low v none = elim (cases_lt (far_at sear
       omega arith)
 ]
 
--- the node that is looked from next
-pub settle_all : (g : Ground) (old mid : Search) (c : TreeNode) → IsSearching g old → IsNearest g old c
-    → mid ≡ record old { order = mid.order; looked = old.looked + 1 } → IsOver (wave_of g).tree mid.order
-    → order_at mid c ≡ old.looked + 1 → ((v : TreeNode) → v ≢ c → order_at mid v ≡ order_at old v)
-    → IsSearching g mid × IsAt mid c × ((new : Search) → Improves mid new → Settles old new c)
-settle_all g old mid c s nearest rest over here others =
-    subst (λ m. IsSearching g m × IsAt m c × ((new : Search) → Improves m new → Settles old new c)) (sym rest) (
-      settle_kept g old mid.order c s nearest.fresh over here others nearest,
-      settle_at g old mid.order c s nearest.fresh over here others nearest,
-      settles_then g old mid.order c s nearest.fresh over here others,
-    )
-
--- from which all steps were taken, one kind after another
+-- a node from which all steps were taken, one kind after another
 pub looked_all : (g : Ground) (c : TreeNode) (one two three : Search) → 0 < order_at one c
     → Improves one two → Improves two three → IsSearching g three → ((v : TreeNode) → IsDown g one c v)
     → (0 < (state_at g).flow c → min two.bound (far_at two (parent (wave_of g).tree c)) + (state_at g).depth c

@@ -14,8 +14,7 @@ use Rattle.tree_planner.specs.Reaching.{node_in}
 use Rattle.tree_planner.specs.SearchingBack.{IsAt, IsDown, IsFresh, IsNearest, IsSearching, Settles}
 use Rattle.tree_flow.specs.Table.{IsOver}
 use Rattle.tree_planner.proofs.Counted.{count_less}
-use Rattle.tree_planner.proofs.ImprovedBack.{improves_trans, some_same, down_kept, settle_kept, settle_at}
-use Rattle.tree_planner.proofs.ImprovedBack.{settles_then}
+use Rattle.tree_planner.proofs.ImprovedBack.{improves_trans, some_same, down_kept}
 
 -- how many nodes a search back has not looked from
 abbrev pub open_count : SearchBack → List TreeNode → ℕ
@@ -55,20 +54,7 @@ found_nearest h search best s is seen = found best is (λ v none. elim (cases_lt
     found None is least = least
     found (Some c) is least = record { known = is.0; fresh = is.1; near = is.2; least = least }
 
--- the node that is looked from next
-pub settle_all : (h : Hollow) (old mid : SearchBack) (c : TreeNode) → IsSearching h old → IsNearest h old c
-    → mid ≡ record old { order = mid.order; looked = old.looked + 1 } → IsOver (wave_of h).tree mid.order
-    → order_at mid c ≡ old.looked + 1 → ((v : TreeNode) → v ≢ c → order_at mid v ≡ order_at old v)
-    → IsSearching h mid × IsAt mid c × ((new : SearchBack) → Improves mid new → Settles old new c)
-settle_all h old mid c s nearest rest over here others =
-    subst (λ m. IsSearching h m × IsAt m c × ((new : SearchBack) → Improves m new → Settles old new c))
-    (sym rest) (
-      settle_kept h old mid.order c s nearest over here others,
-      settle_at h old mid.order c s nearest over here others,
-      settles_then h old mid.order c s nearest over here others,
-    )
-
--- from which all steps were taken, one kind after another
+-- a node from which all steps were taken, one kind after another
 pub looked_all : (h : Hollow) (c : TreeNode) (one two three four : SearchBack) → 0 < order_at one c
     → Improves one two → Improves two three → Improves three four
     → (one.bound ≤ far_at one c + (state_at h).depth c)

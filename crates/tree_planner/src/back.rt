@@ -190,10 +190,12 @@ impl SearchBack {
     fn settle(&mut self, node: TreeNode)
         requires node { HasNode self.old.order node }
         requires few { self.old.looked + 1 < 2 ^ 64 }
-        ensures rest { self.new ≡ record self.old { order = self.new.order; looked = self.old.looked + 1 } }
-        ensures here { order_at self.new node ≡ self.old.looked + 1 }
-        ensures others { (v : TreeNode) → v ≢ node → order_at self.new v ≡ order_at self.old v }
-        ensures size { IsSized self.old.order self.new.order }
+        ensures hole { self.new.hole ≡ self.old.hole }
+        ensures kept { (h : Hollow) → IsSearching h self.old → IsNearest h self.old node
+            → IsSearching h self.new }
+        ensures at { (h : Hollow) → IsSearching h self.old → IsNearest h self.old node → IsAt self.new node }
+        ensures settles { (h : Hollow) → IsSearching h self.old → IsNearest h self.old node
+            → Settles self.old self.new node }
     {
         self.looked += 1;
         self.order.set(node, self.looked);

@@ -243,6 +243,11 @@ impl Search {
         ensures here { order_at self.new node ≡ self.old.looked + 1 }
         ensures others { (v : TreeNode) → v ≢ node → order_at self.new v ≡ order_at self.old v }
         ensures size { IsSized self.old.order self.new.order }
+        ensures kept { (g : Ground) → IsSearching g self.old → IsNearest g self.old node
+            → IsSearching g self.new }
+        ensures at { (g : Ground) → IsSearching g self.old → IsNearest g self.old node → IsAt self.new node }
+        ensures settles { (g : Ground) → IsSearching g self.old → IsNearest g self.old node
+            → Settles self.old self.new node }
     {
         self.looked += 1;
         self.order.set(node, self.looked);
