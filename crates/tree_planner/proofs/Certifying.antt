@@ -1,5 +1,5 @@
 -- Starts that are handed down are best, as there are prices that certify them.
-use Rattle.std.proofs.Common.{◌≡◌, ℕ, zero, suc, ◌+◌, ◌-◌, ◌<◌, ◌≤◌, ◌∙◌, Bool, true, false, [], List, map, length}
+use Rattle.std.proofs.Common.{◌≡◌, ℕ, zero, suc, ◌+◌, ◌-◌, ◌<◌, ◌∙◌, Bool, true, false, [], List, map, length}
 use Rattle.std.proofs.Common.{Option, Some, None, refl, ap, subst, arith, inl, inr}
 use Rattle.std.specs.List.{range_with_len}
 use Rattle.std.specs.Prelude.{slice_index, unwrap_or}
@@ -8,7 +8,7 @@ use Rattle.std.proofs.lemmas.List.{get_or_past}
 use Rattle.std.proofs.lemmas.List.FromFn.{get_or-map-range_with_len, length-map-range_with_len}
 use Rattle.rack_tree.specs.Tree.{IsWithinReach}
 use Rattle.wave_problem.specs.Assignment.{pairs_of, start_of, IsBest}
-use Rattle.wave_problem.specs.Wave.{cost, worker_at, IsUsable, Wave}
+use Rattle.wave_problem.specs.Wave.{cost, worker_at, Wave}
 use Rattle.wave_problem.proofs.Bound.{live_known}
 use Rattle.price_certificate.specs.PriceList.{PriceList}
 use Rattle.price_certificate.proofs.Covered.{best-plain}

@@ -1,5 +1,5 @@
 -- The depths after a search.
-use Rattle.std.proofs.Common.{◌≡◌, ℕ, ◌+◌, ◌-◌, ◌^◌, ◌<◌, ◌≤◌, min, ap, subst, inl, inr, arith}
+use Rattle.std.proofs.Common.{ℕ, ◌+◌, ◌-◌, ◌^◌, ◌<◌, ◌≤◌, min, ap, subst, inl, inr, arith}
 use Rattle.std.proofs.lemmas.Bool.{cases_lt}
 use Rattle.rack_tree.specs.Tree.{Tree}
 use Rattle.tree_flow.specs.declared.node_table.NodeTable.{NodeTable}

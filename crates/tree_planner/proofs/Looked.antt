@@ -16,11 +16,11 @@ use Rattle.tree_flow.specs.State.{State, place_of, sum_under}
 use Rattle.tree_flow.proofs.Certified.{which_above}
 use Rattle.tree_flow.proofs.Children.{some_of_sum}
 use Rattle.tree_flow.proofs.Ends.{node_known}
-use Rattle.tree_planner.specs.Searching.{order_at, far_at, state_at, wave_of, GoesAllOver, HasLookedFrom, Improves, IsAt}
+use Rattle.tree_planner.specs.Searching.{order_at, far_at, state_at, wave_of, GoesAllOver, HasLookedFrom, Improves}
 use Rattle.tree_planner.specs.declared.search.Goal.TheVariants.{Slot}
 use Rattle.tree_planner.specs.Searching.{EndsIn, HasStarted, IsSearched}
 use Rattle.tree_planner.specs.Reaching.{floor_in}
-use Rattle.tree_planner.specs.Searching.{place_at, IsDown, IsGround, IsNearest, IsSearching, Settles}
+use Rattle.tree_planner.specs.Searching.{place_at, IsDown, IsGround, IsSearching}
 use Rattle.tree_flow.specs.Table.{IsOver}
 use Rattle.tree_planner.proofs.Improved.{improves_trans, some_same, down_kept, settle_found}
 

@@ -1,5 +1,5 @@
 -- A node from which all steps of a hole were taken.
-use Rattle.std.proofs.Common.{◌≡◌, ℕ, ◌+◌, ◌^◌, ◌<◌, ◌≤◌, min, List, length, Contains, Option, Some, None, sym, ap, subst}
+use Rattle.std.proofs.Common.{◌≡◌, ℕ, ◌+◌, ◌^◌, ◌<◌, ◌≤◌, min, List, length, Contains, Option, Some, None, ap, subst}
 use Rattle.std.proofs.Common.{count_by, inl, inr, arith}
 use Rattle.std.specs.Prelude.{◌≢◌, ◌==◌, MatchOption}
 use Rattle.std.proofs.lemmas.Bool.{cases_lt, eq-eqb, ne_eqb}
@@ -11,8 +11,7 @@ use Rattle.tree_flow.specs.State.{slots_of, sum_under}
 use Rattle.tree_planner.specs.SearchingBack.{order_at, far_at, far_of, state_at, wave_of, AreInto}
 use Rattle.tree_planner.specs.SearchingBack.{HasLookedFrom, Improves}
 use Rattle.tree_planner.specs.Reaching.{node_in}
-use Rattle.tree_planner.specs.SearchingBack.{IsAt, IsDown, IsFresh, IsNearest, IsSearching, Settles}
-use Rattle.tree_flow.specs.Table.{IsOver}
+use Rattle.tree_planner.specs.SearchingBack.{IsDown, IsFresh, IsNearest, IsSearching}
 use Rattle.tree_planner.proofs.Counted.{count_less}
 use Rattle.tree_planner.proofs.ImprovedBack.{improves_trans, some_same, down_kept}
 

@@ -1,6 +1,6 @@
-use Rattle.std.proofs.Common.{◌≡◌, ◌∙◌, List, Option, ℕ, ap, length, subst, sym}
+use Rattle.std.proofs.Common.{◌∙◌, List, Option, ℕ, ap, length, subst, sym}
 use Rattle.wave_problem.specs.Assignment.{pairs_of}
-use Rattle.tree_flow.specs.Settled.{ArePrices, IsHandedDown}
+use Rattle.tree_flow.specs.Settled.{IsHandedDown}
 use Rattle.tree_planner.specs.View.{state_of}
 use Rattle.tree_flow.proofs.Certified.{engine_certifies, engine_is_best}
 use Rattle.tree_planner.proofs.engine.read_off.Goals as goal

@@ -1,4 +1,4 @@
-use Rattle.std.proofs.Common.{◌≡◌, ◌<◌, ◌+◌, ◌∙◌, ◌++◌, ◌∷◌, [], ℕ, List, ap, length, refl, slice_index, subst, sym, arith}
+use Rattle.std.proofs.Common.{◌+◌, ◌++◌, ◌∷◌, [], ℕ, List, refl, slice_index, subst, sym, arith}
 use Rattle.tree_flow.proofs.Under.{stands_known}
 use Rattle.tree_planner.specs.Handing.{AreStanding}
 use Rattle.tree_planner.specs.View.{state_of}

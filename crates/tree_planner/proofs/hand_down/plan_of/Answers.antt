@@ -1,5 +1,5 @@
-use Rattle.std.proofs.Common.{◌≡◌, ℕ, ◌+◌, ◌<◌, ◌∙◌, List, None, Option, Some, ap, drop, get_or, length, replicate}
-use Rattle.std.proofs.Common.{sym, subst, arith}
+use Rattle.std.proofs.Common.{ℕ, ◌+◌, ◌∙◌, List, None, Option, Some, ap, drop, length, replicate}
+use Rattle.std.proofs.Common.{sym, arith}
 use Rattle.std.specs.Prelude.{slice_set}
 use Rattle.std.proofs.lemmas.List.{at_drop_all, drop_more, length-replicate, length-set}
 use Rattle.tree_planner.proofs.Paired.{filled, filled_of, pairs_known}

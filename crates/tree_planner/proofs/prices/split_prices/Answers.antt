@@ -1,7 +1,6 @@
-use Rattle.std.proofs.Common.{◌≡◌, ℕ, ◌+◌, ◌<◌, ◌∙◌, List, length, get_or, ap, sym, subst, arith}
+use Rattle.std.proofs.Common.{ℕ, ◌+◌, ◌<◌, ◌∙◌, length, get_or, ap, sym, subst, arith}
 use Rattle.std.proofs.lemmas.List.{get_or_default}
-use Rattle.std.specs.Prelude.{slice_index, slice_set}
-use Rattle.wave_problem.specs.Assignment.{pairs_of}
+use Rattle.std.specs.Prelude.{slice_set}
 use Rattle.tree_planner.proofs.Paired.{all_priced, no_pair, pairs_known, price_on, priced_next, ArePriced}
 use Rattle.tree_planner.proofs.prices.split_prices.Goals as goal
 
