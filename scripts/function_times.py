@@ -7,7 +7,7 @@ The check is of one job, over the libraries that `rt ci` or `rt check` left in o
 folder of its own. It writes a file for each module as it ends with it, so the time since the file before is that
 module's. Of a function `Lts` are its lifetimes, `Proof` the goals that the tactics close by themselves, `Answers`
 those that are answered by hand; what lies outside of functions goes by its file. Other work on the machine makes the
-seconds larger.
+seconds larger. A crate of tests is checked with its tests.
 """
 import re
 import subprocess
@@ -20,7 +20,7 @@ sys.dont_write_bytecode = True
 from crates import rattle_words, read_crates
 
 # What a module of a function's proof is named by.
-KINDS = ("Lts", "Proof", "Answers", "Goals", "Invariants", "Code", "Statement", "Met")
+KINDS = ("Lts", "Proof", "Answers", "Goals", "Invariants", "Code", "Kinds", "Tie", "Statement", "Met")
 
 
 def module_seconds(kept):
@@ -43,6 +43,7 @@ def main(name, count=30):
     crate = crates[name]
     with tempfile.TemporaryDirectory(prefix="times-") as kept:
         words = [*rattle_words("check", crate, crates), "--jobs", "1", "--incremental", kept]
+        words += ["--test"] if name.endswith("_tests") else []
         said = subprocess.run(
             words, cwd=crate.folder, stdout=subprocess.PIPE, stderr=subprocess.STDOUT, text=True, errors="replace"
         )
