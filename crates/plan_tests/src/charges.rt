@@ -28,7 +28,7 @@ fn plans_are_best(rt: HostRuntime) {
 }
 
 // Two workers of one rack, of which the first holds all splits and has prices of places; and what the plan comes to.
-const ROWS: [(Row, Places, Certified); 2] = [
+static ROWS: [(Row, Places, Certified); 2] = [
     // the other split next door costs 8, and both on their holder 10
     (
         Row {
@@ -65,16 +65,19 @@ const ROWS: [(Row, Places, Certified); 2] = [
     ),
 ];
 
+// That the plan of a row comes to this.
+fn assert_row(rt: &impl Abort, alloc: Global, row: &Row, places: Places, want: Certified) {
+    let mut small = Small::of(row);
+    small.places[0] = places;
+    let problem = of(rt, alloc, &small);
+    let places = places_of(rt, alloc, &small);
+    let planned = wave_planner::plan_places(alloc, &problem, &places).expect(rt, "no plan");
+    assert_eq!(rt; planned.certified(), want);
+}
+
 #[test]
 fn rows(rt: HostRuntime) {
-    for (row, places, want) in ROWS {
-        let mut small = Small::of(&row);
-        small.places[0] = places;
-        let problem = of(&rt, rt.alloc(), &small);
-        let places = places_of(&rt, rt.alloc(), &small);
-        let planned = wave_planner::plan_places(rt.alloc(), &problem, &places).expect(
-            &rt, "no plan",
-        );
-        assert_eq!(rt; planned.certified(), want);
+    for (row, places, want) in &ROWS {
+        assert_row(&rt, rt.alloc(), row, *places, *want);
     }
 }

@@ -51,55 +51,53 @@ pub fn tree(rt: &impl Abort, alloc: Global, rows: &[WorkerRow]) -> RackTree {
 }
 
 /// The lines of these workers.
-pub fn worker_lines(alloc: Global, rows: &[WorkerRow]) -> Option<Vec<WorkerLine>> {
+pub fn worker_lines(rt: &impl Abort, alloc: Global, rows: &[WorkerRow]) -> Vec<WorkerLine> {
     let mut lines = Vec::new(alloc);
     for (_, live, free) in rows {
-        lines
-            .push(WorkerLine {
-                live: *live,
-                free: *free,
-            })
-            .ok()?;
+        let line = WorkerLine {
+            live: *live,
+            free: *free,
+        };
+        lines.push(line).expect(rt, "no workers");
     }
-    Some(lines)
+    lines
 }
 
-fn holders(alloc: Global, row: &[u16]) -> Option<Vec<WorkerNo>> {
+fn holders(rt: &impl Abort, alloc: Global, row: &[u16]) -> Vec<WorkerNo> {
     let mut holders = Vec::new(alloc);
     for holder in row {
-        holders.push(WorkerNo::new(*holder)).ok()?;
+        holders
+            .push(WorkerNo::new(*holder))
+            .expect(rt, "no holders");
     }
-    Some(holders)
+    holders
 }
 
 /// The lines of these splits.
-pub fn split_lines(alloc: Global, rows: &[SplitRow<'_>]) -> Option<Vec<SplitLine>> {
+pub fn split_lines(rt: &impl Abort, alloc: Global, rows: &[SplitRow<'_>]) -> Vec<SplitLine> {
     let mut lines = Vec::new(alloc);
     for (bytes, pending, row) in rows {
-        let holders = holders(alloc, row)?;
-        lines
-            .push(SplitLine {
-                bytes: *bytes,
-                pending: *pending,
-                holders,
-            })
-            .ok()?;
+        let line = SplitLine {
+            bytes: *bytes,
+            pending: *pending,
+            holders: holders(rt, alloc, row),
+        };
+        lines.push(line).expect(rt, "no splits");
     }
-    Some(lines)
+    lines
 }
 
 /// The set of these pairs of a split and a worker, where all splits are in range.
-pub fn pairs(alloc: Global, rows: &[(u16, u16)]) -> Option<PairSet> {
-    let mut barred = PairSet::new(alloc, 1024).ok()?;
-    for s in 0..rows.len() {
-        let (split, worker) = rows[s];
-        if split >= 1024 {
-            return None;
-        }
-        let split = SplitNo::new(u32::from(split));
-        barred.put(split, WorkerNo::new(worker)).ok()?;
+pub fn pairs(rt: &impl Abort, alloc: Global, rows: &[(u16, u16)]) -> PairSet {
+    let mut barred = PairSet::new(alloc, 1024).expect(rt, "no pairs");
+    for (split, worker) in rows {
+        assert!(rt; *split < 1024);
+        let split = SplitNo::new(u32::from(*split));
+        barred
+            .put(split, WorkerNo::new(*worker))
+            .expect(rt, "no pairs");
     }
-    Some(barred)
+    barred
 }
 
 /// What comes of a problem of these rows, in which these pairs of a split and a worker are barred, in two
@@ -124,9 +122,9 @@ pub fn made_in(
     barred: &[(u16, u16)],
 ) -> Result<Problem, ProblemError> {
     let tree = tree_in(rt, alloc, centres, workers);
-    let workers = worker_lines(alloc, workers).expect(rt, "no workers");
-    let splits = split_lines(alloc, splits).expect(rt, "no splits");
-    let barred = pairs(alloc, barred).expect(rt, "no pairs");
+    let workers = worker_lines(rt, alloc, workers);
+    let splits = split_lines(rt, alloc, splits);
+    let barred = pairs(rt, alloc, barred);
     assert!(rt; workers.len() == tree.workers());
     Problem::new(alloc, tree, workers, splits, barred)
 }

@@ -11,7 +11,7 @@ fn splits_are_told_by_limits_and_holders(rt: HostRuntime) {
         (1, &[1, 0, 1], true, false),
     ];
     for (bytes, holders, is_small, is_held_well) in rows {
-        let splits = split_lines(rt.alloc(), &[(bytes, true, holders)]).expect(&rt, "no splits");
+        let splits = split_lines(&rt, rt.alloc(), &[(bytes, true, holders)]);
         let told = (are_small_splits(&splits), are_held_well(3, &splits));
         assert_eq!(rt; (bytes, told), (bytes, (is_small, is_held_well)));
     }

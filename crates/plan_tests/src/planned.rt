@@ -89,7 +89,7 @@ const TWO_CENTRES: (u8, [u8; 3]) = (2, [0, 1, 0]);
 // What a problem shows, the problem, what its plan costs, and the worker of each split.
 type PlanRow = (&'static str, Row, u64, &'static [Option<u16>]);
 
-const ROWS: [PlanRow; 10] = [
+static ROWS: [PlanRow; 10] = [
     (
         "the nearest is not the cheapest",
         Row {

@@ -5,7 +5,7 @@ use augmenting_paths::{can_ship, saturate};
 use flow_network::{FlowArc, Network};
 use node_ids::Numbered;
 use shortest_paths::Potentials;
-use std::alloc::{AllocError, Global};
+use std::alloc::Global;
 use std::process::Abort;
 
 /// Ships a unit from each source, which may be asked.
@@ -167,19 +167,25 @@ impl Walk {
     }
 }
 
+fn add(rt: &impl Abort, paths: &mut Vec<Walk>, path: Option<Walk>) {
+    if let Some(path) = path {
+        paths.push(path).expect(rt, "no memory");
+    }
+}
+
 // Adds all paths that are this one with one residual arc more.
 fn add_longer(
+    rt: &impl Abort,
     network: &Network<Numbered>,
     potentials: &Potentials,
     path: Walk,
     longer: &mut Vec<Walk>,
-) -> Result<(), AllocError> {
+) {
     for (arc, carried) in network.all_arcs().iter().zip(network.all_flows()) {
-        for path in path.longer(potentials, *arc, *carried).iter().flatten() {
-            longer.push(*path)?;
-        }
+        let both = path.longer(potentials, *arc, *carried);
+        add(rt, longer, both[0]);
+        add(rt, longer, both[1]);
     }
-    Ok(())
 }
 
 // All paths that are one of these with one residual arc more.
@@ -192,7 +198,7 @@ fn longer(
 ) -> Vec<Walk> {
     let mut longer = Vec::new(alloc);
     for path in paths {
-        add_longer(network, potentials, *path, &mut longer).expect(rt, "no memory");
+        add_longer(rt, network, potentials, *path, &mut longer);
     }
     longer
 }

@@ -4,7 +4,7 @@ use crate::small::{Small, Split, Worker};
 use node_ids::{PairSet, RackNo, SplitNo, WorkerNo};
 use price_certificate::PlacePrices;
 use rack_tree::RackTree;
-use std::alloc::{AllocError, Global};
+use std::alloc::Global;
 use std::process::Abort;
 use wave_problem::{Problem, SplitLine, WorkerLine};
 
@@ -18,49 +18,52 @@ fn tree(rt: &impl Abort, alloc: Global, centres: Centres<'_>, workers: &[Worker]
     tree
 }
 
-fn worker_lines(alloc: Global, workers: &[Worker]) -> Result<Vec<WorkerLine>, AllocError> {
+fn worker_lines(rt: &impl Abort, alloc: Global, workers: &[Worker]) -> Vec<WorkerLine> {
     let mut lines = Vec::new(alloc);
     for worker in workers {
-        lines.push(WorkerLine {
+        let line = WorkerLine {
             live: worker.live,
             free: worker.free,
-        })?;
+        };
+        lines.push(line).expect(rt, "no memory");
     }
-    Ok(lines)
+    lines
 }
 
-fn split_line(alloc: Global, split: &Split) -> Result<SplitLine, AllocError> {
+fn split_line(rt: &impl Abort, alloc: Global, split: &Split) -> SplitLine {
     let mut holders = Vec::new(alloc);
     for w in 0..4u16 {
         if split.held_by[usize::from(w)] {
-            holders.push(WorkerNo::new(w))?;
+            holders.push(WorkerNo::new(w)).expect(rt, "no memory");
         }
     }
-    Ok(SplitLine {
+    SplitLine {
         bytes: split.bytes,
         pending: split.pending,
         holders,
-    })
+    }
 }
 
-fn split_lines(alloc: Global, splits: &[Split]) -> Result<Vec<SplitLine>, AllocError> {
+fn split_lines(rt: &impl Abort, alloc: Global, splits: &[Split]) -> Vec<SplitLine> {
     let mut lines = Vec::new(alloc);
     for split in splits {
-        lines.push(split_line(alloc, split)?)?;
+        let line = split_line(rt, alloc, split);
+        lines.push(line).expect(rt, "no memory");
     }
-    Ok(lines)
+    lines
 }
 
-fn barred_pairs(alloc: Global, splits: &[Split]) -> Result<PairSet, AllocError> {
-    let mut barred = PairSet::new(alloc, 1024)?;
+fn barred_pairs(rt: &impl Abort, alloc: Global, splits: &[Split]) -> PairSet {
+    let mut barred = PairSet::new(alloc, 1024).expect(rt, "no memory");
     for s in 0..splits.len().min(1024) {
         for w in 0..4u16 {
             if splits[s].barred_on[usize::from(w)] {
-                barred.put(SplitNo::new(s as u32), WorkerNo::new(w))?;
+                let split = SplitNo::new(s as u32);
+                barred.put(split, WorkerNo::new(w)).expect(rt, "no memory");
             }
         }
     }
-    Ok(barred)
+    barred
 }
 
 // The problem of these data centres with their racks, these workers and splits.
@@ -72,10 +75,10 @@ fn problem(
     splits: &[Split],
 ) -> Problem {
     let tree = tree(rt, alloc, centres, workers);
-    let workers = worker_lines(alloc, workers).expect(rt, "no memory");
+    let workers = worker_lines(rt, alloc, workers);
     assert!(rt; workers.len() == tree.workers());
-    let lines = split_lines(alloc, splits).expect(rt, "no memory");
-    let barred = barred_pairs(alloc, splits).expect(rt, "no memory");
+    let lines = split_lines(rt, alloc, splits);
+    let barred = barred_pairs(rt, alloc, splits);
     Problem::new(alloc, tree, workers, lines, barred).expect(rt, "no problem")
 }
 

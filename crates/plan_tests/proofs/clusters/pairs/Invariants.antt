@@ -1,5 +1,5 @@
 use Rattle.std.proofs.Common.{◌≡◌, length}
 use Rattle.plan_tests.proofs.clusters.pairs.Given as goal
 
-abbrev pub invariant-loop-s : goal.invariant-loop-s
-invariant-loop-s l = (length l.barred ≡ 1024)
+abbrev pub invariant-loop-split : goal.invariant-loop-split
+invariant-loop-split g l = (length l.barred ≡ 1024)

@@ -4,4 +4,4 @@ use Rattle.node_ids.proofs.Updating.{length-updated}
 use Rattle.plan_tests.proofs.small_problems.barred_pairs.Goals as goal
 
 pub loop-w-preserved : goal.loop-w-preserved
-loop-w-preserved c = grind (arith, common_steps, length-updated)
+loop-w-preserved g c = grind (arith, common_steps, length-updated)
