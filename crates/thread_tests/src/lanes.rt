@@ -1,6 +1,7 @@
-ghost use Rattle.std.specs.Prelude.{◌≡◌, ◌<◌, ◌≤◌, ◌++◌, [], ◌∷◌, length, vec_len, vec_capacity, IfOk};
-ghost use Rattle.std.specs.Prelude.{IfSome};
+ghost use Rattle.std.specs.Prelude.{◌≡◌, ◌≤◌, ◌++◌, [], ◌∷◌, length, vec_len, vec_capacity, IfSome};
 ghost use Rattle.std.specs.List.{All};
+ghost use Rattle.lane_queue.specs.Lanes.{AreWhole, depths_of, one_each, puts_of, takes_of};
+ghost use Rattle.lane_queue.specs.Orders.{Settles};
 
 use lane_queue::{Lane, Order, Pass};
 use node_ids::{AttemptNo, PartNo, SplitNo};
@@ -8,7 +9,7 @@ use std::alloc::{AllocError, Global};
 use std::process::Abort;
 use std::sync::{Arc, Wait};
 use std::thread;
-use std::thread::Threads;
+use std::thread::{PromisedHandle, Scope, Threads};
 use word_map::SplitText;
 
 // Puts one order, and waits while the lane is full.
@@ -102,25 +103,46 @@ fn put_and_take<R: Threads + Wait + Sync>(
     (putter, taker, taken)
 }
 
+// A lane with room for two orders, and two passes of it, each half of its first.
+fn two_passes(alloc: Global) -> Option<(Lane, Pass, Pass)>
+    ensures one { IfSome result (λ r. r.1 ≡ record { lane = r.0.lane; puts = []; takes = []; depth = 1 }) }
+    ensures two { IfSome result (λ r. r.2 ≡ record { lane = r.0.lane; puts = []; takes = []; depth = 1 }) }
+{
+    let (lane, mut one) = Lane::new(alloc, 2).ok()?;
+    let two = lane.share(&mut one).ok()?;
+    Some((lane, one, two))
+}
+
+fn list_of_two(alloc: Global, one: Pass, two: Pass) -> Option<Vec<Pass>>
+    ensures { IfSome result (λ passes. passes.items ≡ one ∷ two ∷ []) }
+{
+    vec![in alloc; one, two].ok()
+}
+
+// Closes the lane with these passes: what is left in it.
+fn close_with<R: Wait + Abort>(rt: &R, alloc: Global, lane: Lane, passes: Vec<Pass>) -> Vec<Order>
+    requires { All (λ p. p.lane ≡ lane.lane) passes.items }
+    ensures { AreWhole (depths_of passes.items)
+        → Settles (one_each passes.items) (puts_of passes.items) (takes_of passes.items) result.items }
+{
+    let tally = lane.close(rt, alloc, passes).ok();
+    tally.expect(rt, "not closed").left
+}
+
 // Hands all the orders to another thread, which takes them in their order.
-fn hand_over<R: Threads + Wait + Sync>(
+fn hand_over<R: Threads + Wait + Sync + Abort>(
     rt: &R,
     alloc: Global,
     orders: Vec<Order>,
-) -> Option<Vec<Order>>
-    ensures { IfSome result (λ taken. taken.items ≡ orders.items) }
+) -> Vec<Order>
+    ensures { result.items ≡ orders.items }
 {
-    let taken = Vec::with_capacity(alloc, orders.len()).ok()?;
-    let mut passes = Vec::with_capacity(alloc, 2).ok()?;
-    let (lane, mut putter) = Lane::new(alloc, 2).ok()?;
-    let taker = lane.share(&mut putter).ok()?;
+    let taken = Vec::with_capacity(alloc, orders.len()).expect(rt, "no memory");
+    let (lane, putter, taker) = two_passes(alloc).expect(rt, "no lane");
     let (putter, taker, taken) = put_and_take(rt, &lane, putter, taker, orders, taken);
-    passes.push_reserved(putter);
-    passes.push_reserved(taker);
-    match lane.close(rt, alloc, passes) {
-        Ok(_) => Some(taken),
-        Err(_) => None,
-    }
+    let passes = list_of_two(alloc, putter, taker).expect(rt, "no memory");
+    let _left = close_with(rt, alloc, lane, passes);
+    taken
 }
 
 fn map_order(alloc: Global, attempt: u32) -> Result<Order, AllocError> {
@@ -140,44 +162,67 @@ impl<'a> thread::Promise<Pass> for PassOf<'a> {
     ghost kept_by = { λ p s. s.lane ≡ p.0.now.lane };
 }
 
-// A thread for each pass, which puts an order, and the passes that come back. The attempts are numbered from
-// 1.
-fn each_puts<R: Threads + Wait + Sync>(
+// A thread of the scope, which puts the order with the pass.
+fn start<'s, E, R: Wait + Abort + Sync>(
+    rt: &'s R,
+    scope: &Scope<'s, E>,
+    lane: &'s Lane,
+    pass: Pass,
+    order: Order,
+) -> PromisedHandle<Pass, PassOf<'s>>
+    requires { pass.lane ≡ lane.now.lane }
+    ensures { result.promise.0.now.lane ≡ lane.now.lane }
+{
+    let started = scope.spawn_with(
+        PassOf(lane),
+        move || -> Pass
+            requires { pass.lane ≡ lane.now.lane }
+            ensures { result.lane ≡ lane.entry.now.lane }
+        { put_one(rt, lane, pass, order) },
+    );
+    started.expect(rt, "no thread")
+}
+
+// A thread for each pass. The attempts are numbered from 1.
+fn start_each<'s, E, R: Wait + Abort + Sync>(
+    rt: &'s R,
+    scope: &Scope<'s, E>,
+    alloc: Global,
+    lane: &'s Lane,
+    passes: Vec<Pass>,
+) -> Vec<PromisedHandle<Pass, PassOf<'s>>>
+    requires { All (λ p. p.lane ≡ lane.now.lane) passes.items }
+    ensures { All (λ t. t.promise.0.now.lane ≡ lane.now.lane) result.items }
+{
+    let mut threads = Vec::new(alloc);
+    let mut attempt = 0u32;
+    for pass in passes {
+        attempt = attempt.wrapping_add(1);
+        let thread = start(rt, scope, lane, pass, reduce_order(alloc, attempt));
+        threads.push(thread).expect(rt, "no memory");
+    }
+    threads
+}
+
+// A thread for each pass, which puts an order, and the passes that come back.
+fn each_puts<R: Threads + Wait + Sync + Abort>(
     rt: &R,
     alloc: Global,
     lane: &Lane,
     passes: Vec<Pass>,
-) -> Result<Vec<Pass>, AllocError>
+) -> Vec<Pass>
     requires { All (λ p. p.lane ≡ lane.now.lane) passes.items }
-    ensures { IfOk result (λ back. All (λ p. p.lane ≡ lane.now.lane) back.items) }
+    ensures { All (λ p. p.lane ≡ lane.now.lane) result.items }
 {
     thread::scope(
         thread::scope_env(),
         rt,
-        |scope| -> Result<Vec<Pass>, AllocError>
+        |scope| -> Vec<Pass>
             requires { All (λ p. p.lane ≡ lane.now.lane) passes.items }
-            ensures { IfOk result (λ back. All (λ p. p.lane ≡ lane.entry.now.lane) back.items) }
+            ensures { All (λ p. p.lane ≡ lane.entry.now.lane) result.items }
         {
-            let mut back = Vec::with_capacity(alloc, passes.len())?;
-            let mut children = Vec::new(alloc);
-            let mut attempt = 0u32;
-            for pass in passes {
-                attempt = attempt.wrapping_add(1);
-                let order = reduce_order(alloc, attempt);
-                let child = scope.spawn_with(
-                    PassOf(lane),
-                    move || -> Pass
-                        requires { pass.lane ≡ lane.now.lane }
-                        ensures { result.lane ≡ lane.entry.now.lane }
-                    { put_one(rt, lane, pass, order) },
-                )?;
-                children.push(child)?;
-            }
-            for child in children {
-                let _here = lane;
-                back.push(child.join(rt))?;
-            }
-            Ok(back)
+            let threads = start_each(rt, scope, alloc, lane, passes);
+            thread::join_promised(rt, threads).expect(rt, "no memory")
         },
     )
 }
@@ -191,30 +236,11 @@ fn digits(orders: &[Order]) -> usize {
     seen
 }
 
-// A lane with room for two orders, and two passes of it.
-fn two_passes(alloc: Global) -> Option<(Lane, Pass, Pass)>
-    ensures { IfSome result (λ r. (r.1.lane ≡ r.0.lane) × (r.2.lane ≡ r.0.lane)) }
-{
-    let (lane, mut one) = Lane::new(alloc, 2).ok()?;
-    let two = lane.share(&mut one).ok()?;
-    Some((lane, one, two))
-}
-
-fn list_of_two(alloc: Global, one: Pass, two: Pass) -> Option<Vec<Pass>>
-    ensures { IfSome result (λ passes. passes.items ≡ one ∷ two ∷ []) }
-{
-    let mut passes = Vec::with_capacity(alloc, 2).ok()?;
-    passes.push_reserved(one);
-    passes.push_reserved(two);
-    Some(passes)
-}
-
 // The attempts of what is left in the lane, which these passes close.
 fn left_in<R: Wait + Abort>(rt: &R, alloc: Global, lane: Lane, passes: Vec<Pass>) -> usize
     requires { All (λ p. p.lane ≡ lane.lane) passes.items }
 {
-    let tally = lane.close(rt, alloc, passes).ok().expect(rt, "not closed");
-    digits(&tally.left)
+    digits(&close_with(rt, alloc, lane, passes))
 }
 
 // Whether there was room for an order with the attempt's text.
@@ -255,51 +281,50 @@ fn take<R: Wait>(rt: &R, lane: &Lane, pass: &mut Pass) -> Option<usize>
 fn the_third_order_comes_back(rt: HostRuntime) {
     let alloc = rt.alloc();
     let (lane, mut putter, mut taker) = two_passes(alloc).expect(&rt, "no lane");
-    assert!(rt; put_map(&rt, alloc, &lane, &mut putter, 1));
-    assert!(rt; put_map(&rt, alloc, &lane, &mut putter, 2));
+    let one = put_map(&rt, alloc, &lane, &mut putter, 1);
+    let two = put_map(&rt, alloc, &lane, &mut putter, 2);
     let back = put_in_vain(&rt, alloc, &lane, &mut putter);
     let taken = take(&rt, &lane, &mut taker);
     let passes = list_of_two(alloc, putter, taker).expect(&rt, "no memory");
+    let left = left_in(&rt, alloc, lane, passes);
     assert_eq!(rt;
-        (back, taken, left_in(&rt, alloc, lane, passes)),
-        (Some(3), Some(1), 2)
+        (one, two, back, taken, left),
+        (true, true, Some(3), Some(1), 2)
     );
 }
 
-fn five_orders(alloc: Global) -> Option<Vec<Order>> {
+fn five_orders(rt: &impl Abort, alloc: Global) -> Vec<Order> {
     let mut orders = Vec::new(alloc);
     for attempt in 1..6u32 {
-        orders.push(reduce_order(alloc, attempt)).ok()?;
+        let order = reduce_order(alloc, attempt);
+        orders.push(order).expect(rt, "no memory");
     }
-    Some(orders)
+    orders
 }
 
 #[test]
 fn another_thread_takes_all_in_order(rt: HostRuntime) {
-    let orders = five_orders(rt.alloc()).expect(&rt, "no memory");
-    let taken = hand_over(&rt, rt.alloc(), orders).expect(&rt, "no memory");
+    let orders = five_orders(&rt, rt.alloc());
+    let taken = hand_over(&rt, rt.alloc(), orders);
     assert_eq!(rt; digits(&taken), 12345);
 }
 
 // A lane with room for four orders, and three passes of it.
-fn three_passes(alloc: Global) -> Option<(Lane, Vec<Pass>)>
-    ensures { IfSome result (λ r. All (λ p. p.lane ≡ r.0.lane) r.1.items) }
+fn three_passes(rt: &impl Abort, alloc: Global) -> (Lane, Vec<Pass>)
+    ensures { All (λ p. p.lane ≡ result.0.lane) result.1.items }
 {
-    let mut passes = Vec::with_capacity(alloc, 3).ok()?;
-    let (lane, mut one) = Lane::new(alloc, 4).ok()?;
-    let mut two = lane.share(&mut one).ok()?;
-    let three = lane.share(&mut two).ok()?;
-    passes.push_reserved(one);
-    passes.push_reserved(two);
-    passes.push_reserved(three);
-    Some((lane, passes))
+    let (lane, mut one) = Lane::new(alloc, 4).expect(rt, "no lane");
+    let mut two = lane.share(&mut one).expect(rt, "no pass");
+    let three = lane.share(&mut two).expect(rt, "no pass");
+    let passes = vec![in alloc; one, two, three].expect(rt, "no memory");
+    (lane, passes)
 }
 
 // Three threads put an order each, and all three are left, each once.
 #[test]
 fn each_thread_puts_an_order(rt: HostRuntime) {
-    let (lane, passes) = three_passes(rt.alloc()).expect(&rt, "no lane");
-    let passes = each_puts(&rt, rt.alloc(), &lane, passes).expect(&rt, "no memory");
+    let (lane, passes) = three_passes(&rt, rt.alloc());
+    let passes = each_puts(&rt, rt.alloc(), &lane, passes);
     let seen = left_in(&rt, rt.alloc(), lane, passes);
     assert!(rt; [123, 132, 213, 231, 312, 321].contains(&seen), "{seen}");
 }
@@ -321,11 +346,10 @@ fn close_again<R: Wait + Abort>(rt: &R, alloc: Global, lane: Lane, pass: Pass) -
 #[test]
 fn what_is_left_comes_with_any_pass(rt: HostRuntime) {
     let (lane, mut putter, other) = two_passes(rt.alloc()).expect(&rt, "no lane");
-    assert!(rt;
-        lane.put(&rt, &mut putter, reduce_order(rt.alloc(), 1))
-            .is_ok()
-    );
-    assert_eq!(rt; close_again(&rt, rt.alloc(), lane, other), 1);
+    let put = lane.put(&rt, &mut putter, reduce_order(rt.alloc(), 1));
+    let is_put = put.is_ok();
+    let left = close_again(&rt, rt.alloc(), lane, other);
+    assert_eq!(rt; (is_put, left), (true, 1));
 }
 
 // Takes from the lane, which is empty, and puts an order.
