@@ -30,30 +30,34 @@ fn shown(alloc: Global, words: &[&str]) -> Option<(u8, String)> {
 fn shows(rt: &impl Abort, alloc: Global, words: &[&str], status: u8, part: &str) {
     match shown(alloc, words) {
         Some((told, text)) => {
-            assert_eq!(rt; told, status, "{words:?}");
-            assert!(rt; text.contains(part), "{text}");
+            assert!(rt;
+                told == status && text.contains(part),
+                "{words:?}: {told} {text}"
+            );
         }
         None => panic!(rt; "{words:?}"),
     }
 }
 
+// Words that ask for a plan, whether they ask for its prices, and over which network.
+static PLANS: [(&[&str], bool, NetworkKind); 4] = [
+    (&["mrjob", "plan"], false, NetworkKind::Racks),
+    (&["mrjob", "plan", "--prices"], true, NetworkKind::Racks),
+    (
+        &["mrjob", "plan", "--network=direct", "--prices"],
+        true,
+        NetworkKind::Direct,
+    ),
+    (
+        &["mrjob", "plan", "--network", "racks"],
+        false,
+        NetworkKind::Racks,
+    ),
+];
+
 #[test]
 fn plan_is_asked_for(rt: HostRuntime) {
-    let plans: [(&[&str], bool, NetworkKind); 4] = [
-        (&["mrjob", "plan"], false, NetworkKind::Racks),
-        (&["mrjob", "plan", "--prices"], true, NetworkKind::Racks),
-        (
-            &["mrjob", "plan", "--network=direct", "--prices"],
-            true,
-            NetworkKind::Direct,
-        ),
-        (
-            &["mrjob", "plan", "--network", "racks"],
-            false,
-            NetworkKind::Racks,
-        ),
-    ];
-    for (words, prices, network) in plans {
+    for (words, prices, network) in PLANS {
         let wanted = PlanOptions {
             prices,
             network,
@@ -72,13 +76,15 @@ fn keeps_waves(alloc: Global, words: &[&str]) -> Option<bool> {
     }
 }
 
+// Words that ask for a live master, and whether it keeps waves for audits.
+static MASTERS: [(&[&str], bool); 2] = [
+    (&["mrjob", "serve"], true),
+    (&["mrjob", "serve", "--no-audit"], false),
+];
+
 #[test]
 fn serve_is_asked_for(rt: HostRuntime) {
-    let masters: [(&[&str], bool); 2] = [
-        (&["mrjob", "serve"], true),
-        (&["mrjob", "serve", "--no-audit"], false),
-    ];
-    for (words, kept) in masters {
+    for (words, kept) in MASTERS {
         assert_eq!(&rt; keeps_waves(rt.alloc(), words), Some(kept), "{words:?}");
     }
 }
@@ -92,23 +98,25 @@ fn said_of(alloc: Global, words: &[&str]) -> Option<String> {
     }
 }
 
+// Words that ask for a row of the table, and what it says.
+static EXPLAINED: [(&[&str], &str); 3] = [
+    (
+        &["mrjob", "explain", "fault", "5"],
+        "fault 5: a number is out of its range, or prices of places fall\n",
+    ),
+    (
+        &["mrjob", "explain", "C3"],
+        "condition C3: no worker has more starts than free slots\n",
+    ),
+    (
+        &["mrjob", "explain", "ignored", "13"],
+        "ignored 13: the pair is barred\n",
+    ),
+];
+
 #[test]
 fn rows_are_asked_for(rt: HostRuntime) {
-    let rows: [(&[&str], &str); 3] = [
-        (
-            &["mrjob", "explain", "fault", "5"],
-            "fault 5: a number is out of its range, or prices of places fall\n",
-        ),
-        (
-            &["mrjob", "explain", "C3"],
-            "condition C3: no worker has more starts than free slots\n",
-        ),
-        (
-            &["mrjob", "explain", "ignored", "13"],
-            "ignored 13: the pair is barred\n",
-        ),
-    ];
-    for (words, line) in rows {
+    for (words, line) in EXPLAINED {
         let said = said_of(rt.alloc(), words).expect(&rt, "nothing");
         assert_eq!(rt; said.as_str(), line);
     }
@@ -119,54 +127,58 @@ fn rows_are_asked_for(rt: HostRuntime) {
     );
 }
 
+// Words that are wrong, with a part of the answer.
+static WRONG: [(&[&str], &str); 11] = [
+    (&["mrjob"], "requires a subcommand"),
+    (&["mrjob", "fly"], "unrecognized subcommand 'fly'"),
+    (
+        &["mrjob", "check", "--version"],
+        "unexpected argument '--version'",
+    ),
+    (&["mrjob", "explain", "fault", "15"], "nothing is said"),
+    (&["mrjob", "explain", "fault"], "nothing is said"),
+    (&["mrjob", "check", "x"], "unexpected argument 'x'"),
+    (&["mrjob", "play", "-p"], "unexpected argument '-p'"),
+    (
+        &["mrjob", "plan", "--price"],
+        "unexpected argument '--price'",
+    ),
+    (
+        &["mrjob", "plan", "--network"],
+        "a value is required for '--network <NETWORK>'",
+    ),
+    (
+        &["mrjob", "plan", "--network", "ring"],
+        "[possible values: direct, racks]",
+    ),
+    (
+        &["mrjob", "check", "--network", "direct"],
+        "unexpected argument '--network'",
+    ),
+];
+
 #[test]
 fn wrong_words_are_usage(rt: HostRuntime) {
-    let wrong: [(&[&str], &str); 11] = [
-        (&["mrjob"], "requires a subcommand"),
-        (&["mrjob", "fly"], "unrecognized subcommand 'fly'"),
-        (
-            &["mrjob", "check", "--version"],
-            "unexpected argument '--version'",
-        ),
-        (&["mrjob", "explain", "fault", "15"], "nothing is said"),
-        (&["mrjob", "explain", "fault"], "nothing is said"),
-        (&["mrjob", "check", "x"], "unexpected argument 'x'"),
-        (&["mrjob", "play", "-p"], "unexpected argument '-p'"),
-        (
-            &["mrjob", "plan", "--price"],
-            "unexpected argument '--price'",
-        ),
-        (
-            &["mrjob", "plan", "--network"],
-            "a value is required for '--network <NETWORK>'",
-        ),
-        (
-            &["mrjob", "plan", "--network", "ring"],
-            "[possible values: direct, racks]",
-        ),
-        (
-            &["mrjob", "check", "--network", "direct"],
-            "unexpected argument '--network'",
-        ),
-    ];
-    for (words, part) in wrong {
+    for (words, part) in WRONG {
         shows(&rt, rt.alloc(), words, 64, part);
     }
 }
 
+// Words that ask for help, with a part of the answer.
+static HELPS: [(&[&str], &str); 8] = [
+    (&["mrjob", "--help"], "Statuses:"),
+    (&["mrjob", "--version"], "mrjob 1.1.0\n"),
+    (&["mrjob", "help", "explain"], "mrjob explain C6"),
+    (&["mrjob", "help", "check"], "Input:"),
+    (&["mrjob", "plan", "--help"], "[default: racks]"),
+    (&["mrjob", "help", "plan"], "price a 0"),
+    (&["mrjob", "help", "play"], "word the d"),
+    (&["mrjob", "help", "run"], "word the d e"),
+];
+
 #[test]
 fn help_is_no_usage(rt: HostRuntime) {
-    let helps: [(&[&str], &str); 8] = [
-        (&["mrjob", "--help"], "Statuses:"),
-        (&["mrjob", "--version"], "mrjob 1.1.0\n"),
-        (&["mrjob", "help", "explain"], "mrjob explain C6"),
-        (&["mrjob", "help", "check"], "Input:"),
-        (&["mrjob", "plan", "--help"], "[default: racks]"),
-        (&["mrjob", "help", "plan"], "price a 0"),
-        (&["mrjob", "help", "play"], "word the d"),
-        (&["mrjob", "help", "run"], "word the d e"),
-    ];
-    for (words, part) in helps {
+    for (words, part) in HELPS {
         shows(&rt, rt.alloc(), words, 0, part);
     }
 }

@@ -30,7 +30,7 @@ pub fn have_faults(rt: &impl Abort, alloc: Global, purpose: Purpose, head: &str,
 }
 
 // Texts to plan from.
-const TO_PLAN: [Row; 38] = [
+static TO_PLAN: [Row; 38] = [
     ("problem 1\nend\n", None),
     (
         "problem 1\nrack r\nworker a r 16\nsplit s 67108864 a\nend\n",
@@ -98,7 +98,7 @@ fn texts_to_plan_from(rt: HostRuntime) {
 }
 
 // What stands after the head of a text to check, whose first line is the fifth.
-const PLANS: [Row; 9] = [
+static PLANS: [Row; 9] = [
     (
         "plan\nstart s a\nprice s 0\nprice a 18446744073709551615\nend\n",
         None,
@@ -120,7 +120,7 @@ fn texts_to_check(rt: HostRuntime) {
 }
 
 // What stands after the head of a text to check of version 3, whose first line is the sixth.
-const PLACES: [Row; 17] = [
+static PLACES: [Row; 17] = [
     ("places a 0\nplan\nprice s 0\nprice a 0\nend\n", None),
     (
         "places a 0 7 7 68719476736\nplan\nprice s 0\nprice a 0\nend\n",
@@ -167,14 +167,13 @@ fn places_stand_in_problems_of_version_3_alone(rt: HostRuntime) {
 }
 
 // The fault of a line of places with so many prices.
-fn fault_of_prices(alloc: Global, prices: u32, last: &str) -> Option<(u32, u8)> {
-    let mut text = String::from_str(alloc, THIRD).ok()?;
-    text.push_str("places a").ok()?;
+fn fault_of_prices(rt: &impl Abort, alloc: Global, prices: u32, last: &str) -> Option<(u32, u8)> {
+    let mut text = format!(in alloc; "{THIRD}places a").expect(rt, "no text");
     for _ in 0..prices {
-        text.push_str(" 1").ok()?;
+        text.push_str(" 1").expect(rt, "no text");
     }
-    text.push_str(last).ok()?;
-    text.push_str("\n").ok()?;
+    text.push_str(last).expect(rt, "no text");
+    text.push_str("\n").expect(rt, "no text");
     fault_of(alloc, Purpose::Checking, &text)
 }
 
@@ -187,7 +186,7 @@ fn no_more_prices_than_a_worker_has_slots(rt: HostRuntime) {
         (255, " 0", (6, 1)),
         (300, " 68719476737", (6, 1)),
     ] {
-        let told = fault_of_prices(rt.alloc(), prices, last);
+        let told = fault_of_prices(&rt, rt.alloc(), prices, last);
         assert_eq!(rt; told, Some(fault), "{prices}{last}");
     }
 }
@@ -213,7 +212,7 @@ const CENTRE: &str = "centre z\nrack r z";
 
 // What a text is read for, its first line, its racks, the holders of its one split, and the line that names
 // too many.
-const HELD: [(Purpose, &str, &str, &str, Option<u32>); 11] = [
+static HELD: [(Purpose, &str, &str, &str, Option<u32>); 11] = [
     (Purpose::Planning, "problem 1", RACK, EIGHT, None),
     (Purpose::Planning, "problem 1", RACK, NINE, Some(20)),
     (Purpose::Planning, "problem 3", CENTRE, SIXTEEN, None),

@@ -102,15 +102,17 @@ fn each_document_stands_once(rt: HostRuntime) {
     assert!(rt; make_just(&rt, rt.alloc(), &[1, 0], &words, &documents));
 }
 
+// Parts, and why there is no index of them.
+static REFUSED: [(&[u8], FinishError); 4] = [
+    (&[1], FinishError::MissingPart),
+    (&[], FinishError::MissingPart),
+    (&[0, 1, 0], FinishError::DoublePart),
+    (&[0, 0], FinishError::DoublePart),
+];
+
 #[test]
 fn double_comes_before_missing(rt: HostRuntime) {
-    let rows: [(&[u8], FinishError); 4] = [
-        (&[1], FinishError::MissingPart),
-        (&[], FinishError::MissingPart),
-        (&[0, 1, 0], FinishError::DoublePart),
-        (&[0, 0], FinishError::DoublePart),
-    ];
-    for (parts, want) in rows {
+    for (parts, want) in REFUSED {
         let why = refusal(&rt, rt.alloc(), parts);
         assert_eq!(rt; (parts, why), (parts, Some(want)));
     }

@@ -44,15 +44,18 @@ fn maps_to(rt: &impl Abort, alloc: Global, documents: &[&str], want: &[Row]) -> 
     }
 }
 
+// Words, with the hash of each and its part of two, of three and of five.
+static PARTS: [(&str, usize, usize, usize, usize); 5] = [
+    ("cat", 98_262, 0, 0, 2),
+    ("dog", 99_644, 0, 2, 4),
+    ("the", 114_801, 1, 0, 1),
+    ("one", 110_182, 0, 1, 2),
+    ("two", 115_276, 0, 1, 1),
+];
+
 #[test]
 fn a_word_has_its_part(rt: HostRuntime) {
-    for (word, hash, of_two, of_three, of_five) in [
-        ("cat", 98_262, 0, 0, 2),
-        ("dog", 99_644, 0, 2, 4),
-        ("the", 114_801, 1, 0, 1),
-        ("one", 110_182, 0, 1, 2),
-        ("two", 115_276, 0, 1, 1),
-    ] {
+    for (word, hash, of_two, of_three, of_five) in PARTS {
         for (parts, part) in [(1 << 32, hash), (2, of_two), (3, of_three), (5, of_five)] {
             assert_eq!(rt; part_of(word, parts), part, "{word} of {parts}");
         }
@@ -79,21 +82,23 @@ fn two_documents_in_two_parts(rt: HostRuntime) {
     let shared = Arc::try_clone(&text).expect(&rt, "no text");
     let made = map_split(rt.alloc(), shared, 2).expect(&rt, "no result");
     let first: [Row; 2] = [("cat", &[0, 1]), ("dog", &[1])];
-    assert!(rt; runs_are(&rt, &made, &first, &[("the", &[0, 1])]));
+    let are_these = runs_are(&rt, &made, &first, &[("the", &[0, 1])]);
     let told = told_of_last(&rt, &made, &text);
-    assert_eq!(rt; told, (PartNo::new(1), 2, [true; 2]));
+    assert_eq!(rt; (are_these, told), (true, (PartNo::new(1), 2, [true; 2])));
 }
+
+// Documents, with the pairs that are made of them.
+static MAPPED: [(&[&str], &[Row]); 5] = [
+    (&["A-a b2B"], &[("a", &[0]), ("b", &[0])]),
+    (&["Q"], &[("q", &[0])]),
+    (&["4 , 2\t.@[`{"], &[]),
+    (&["", "z\u{e9}Z"], &[("z", &[1])]),
+    (&[], &[]),
+];
 
 #[test]
 fn words_are_longest_runs_of_letters(rt: HostRuntime) {
-    let rows: [(&[&str], &[Row]); 5] = [
-        (&["A-a b2B"], &[("a", &[0]), ("b", &[0])]),
-        (&["Q"], &[("q", &[0])]),
-        (&["4 , 2\t.@[`{"], &[]),
-        (&["", "z\u{e9}Z"], &[("z", &[1])]),
-        (&[], &[]),
-    ];
-    for (documents, want) in rows {
+    for (documents, want) in MAPPED {
         assert!(rt; maps_to(&rt, rt.alloc(), documents, want));
     }
 }

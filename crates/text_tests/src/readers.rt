@@ -73,8 +73,7 @@ fn a_read_that_fails_is_told(rt: HostRuntime) {
     for call in 1..16 {
         let mut source = Source::new(TEXT, 1, Ails::FailsAt(call));
         let read = read_text(rt.alloc(), &mut source);
-        assert_eq!(rt; read.err(), Some(ReadError::Read), "call {call}");
-        assert_eq!(rt; source.calls, call);
+        assert_eq!(rt; (read.err(), source.calls), (Some(ReadError::Read), call));
     }
 }
 
@@ -82,6 +81,8 @@ fn a_read_that_fails_is_told(rt: HostRuntime) {
 fn a_reader_that_never_wakes_is_given_up(rt: HostRuntime) {
     let mut source = Source::new(TEXT, 1, Ails::EachCall);
     let read = read_text(rt.alloc(), &mut source);
-    assert_eq!(rt; read.err(), Some(ReadError::Read));
-    assert_eq!(rt; source.calls, 33_554_434);
+    assert_eq!(rt;
+        (read.err(), source.calls),
+        (Some(ReadError::Read), 33_554_434)
+    );
 }

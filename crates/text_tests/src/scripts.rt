@@ -1,12 +1,13 @@
 use crate::faults::{Row as FaultRow, fault_in, fault_of, have_faults};
-use line_rules::{Purpose, Row, Version, read_lines};
+use line_rules::{KnownLines, Purpose, Row, Version, read_lines};
 use line_shapes::Keyword;
-use std::alloc::{AllocError, Global};
+use std::alloc::Global;
+use std::process::Abort;
 use text_lines::NameTable;
 
 // What stands in a script after `script 1`, a rack r, the workers a and b and a split s: its lines from the
 // sixth on.
-const IN_SCRIPTS: [FaultRow; 30] = [
+static IN_SCRIPTS: [FaultRow; 30] = [
     (
         "parts 64\ntarget 8\nsilence 1000\ndoc d s \ndoc e s\nbegin\nend\n",
         None,
@@ -49,7 +50,7 @@ fn faults_of_scripts(rt: HostRuntime) {
 }
 
 // Texts of each kind, with the fault that each has.
-const TO_PLAY: [FaultRow; 10] = [
+static TO_PLAY: [FaultRow; 10] = [
     (
         "script 1\nrack r\nworker a r 1\nbegin\nsweep 1 2\nend\n",
         Some((5, 1)),
@@ -65,13 +66,13 @@ const TO_PLAY: [FaultRow; 10] = [
     ("script 2\ncentre x\nrack x x\n", Some((3, 4))),
 ];
 
-const TO_RUN: [FaultRow; 3] = [
+static TO_RUN: [FaultRow; 3] = [
     ("job 1\nparts 2\nend\n", None),
     ("job 1\nbegin\nend\n", Some((2, 7))),
     ("job 1\nwave\nend\n", Some((2, 7))),
 ];
 
-const TO_PLAN: [FaultRow; 5] = [
+static TO_PLAN: [FaultRow; 5] = [
     ("problem 2\nrack r\nend\n", Some((2, 1))),
     ("problem 1\ncentre x\nend\n", Some((2, 7))),
     (
@@ -93,12 +94,12 @@ fn faults_of_each_kind(rt: HostRuntime) {
 }
 
 // What stands in a script with one worker, from its fifth line on: of version 2, and of version 3.
-const BACKUPS: [FaultRow; 2] = [
+static BACKUPS: [FaultRow; 2] = [
     ("split s 0\nbegin\nbackup s a\nend\n", None),
     ("begin\nahead 1\nend\n", Some((6, 7))),
 ];
 
-const AHEADS: [FaultRow; 5] = [
+static AHEADS: [FaultRow; 5] = [
     ("begin\nahead 0\nahead 255\nend\n", None),
     ("begin\nahead 256\nend\n", Some((6, 5))),
     ("begin\nahead\nend\n", Some((6, 1))),
@@ -117,22 +118,23 @@ fn commands_of_later_versions(rt: HostRuntime) {
 }
 
 // A job of a version with so many workers.
-fn job_of(alloc: Global, version: u8, workers: u16) -> Result<String, AllocError> {
+fn job_of(rt: &impl Abort, alloc: Global, version: u8, workers: u16) -> String {
     let rack = if version == 1 {
         "rack r"
     } else {
         "centre z\nrack r z"
     };
-    let mut text = format!(in alloc; "job {version}\n{rack}\n")?;
+    let mut text = format!(in alloc; "job {version}\n{rack}\n").expect(rt, "no text");
     for worker in 0..workers {
-        text.push_str(&format!(in alloc; "worker w{worker} r 1\n")?)?;
+        let line = format!(in alloc; "worker w{worker} r 1\n").expect(rt, "no text");
+        text.push_str(&line).expect(rt, "no text");
     }
-    text.push_str("end\n")?;
-    Ok(text)
+    text.push_str("end\n").expect(rt, "no text");
+    text
 }
 
 // Versions, how many workers a job of each has, and the fault of the text.
-const WORKERS: [(u8, u16, Option<(u32, u8)>); 6] = [
+static WORKERS: [(u8, u16, Option<(u32, u8)>); 6] = [
     (1, 32, None),
     (1, 33, Some((35, 6))),
     (2, 32, None),
@@ -144,30 +146,30 @@ const WORKERS: [(u8, u16, Option<(u32, u8)>); 6] = [
 #[test]
 fn a_job_has_so_many_workers_by_its_version(rt: HostRuntime) {
     for (version, workers, fault) in WORKERS {
-        let text = job_of(rt.alloc(), version, workers).expect(&rt, "no text");
+        let text = job_of(&rt, rt.alloc(), version, workers);
         let told = fault_of(rt.alloc(), Purpose::Running, &text);
         assert_eq!(rt; (version, workers, told), (version, workers, fault));
     }
 }
 
 // Declares so many splits.
-fn add_splits(alloc: Global, text: &mut String, splits: u32) -> Result<(), AllocError> {
+fn add_splits(rt: &impl Abort, alloc: Global, text: &mut String, splits: u32) {
     for number in 0..splits {
-        text.push_str(&format!(in alloc; "split s{number} 0\n")?)?;
+        let line = format!(in alloc; "split s{number} 0\n").expect(rt, "no text");
+        text.push_str(&line).expect(rt, "no text");
     }
-    Ok(())
 }
 
 // A script of a version with so many splits.
-fn splits_of(alloc: Global, version: u8, splits: u32) -> Result<String, AllocError> {
-    let mut text = format!(in alloc; "script {version}\n")?;
-    add_splits(alloc, &mut text, splits)?;
-    text.push_str("begin\nend\n")?;
-    Ok(text)
+fn splits_of(rt: &impl Abort, alloc: Global, version: u8, splits: u32) -> String {
+    let mut text = format!(in alloc; "script {version}\n").expect(rt, "no text");
+    add_splits(rt, alloc, &mut text, splits);
+    text.push_str("begin\nend\n").expect(rt, "no text");
+    text
 }
 
 // Versions, how many splits a script of each has, and the fault of the text.
-const SPLITS: [(u8, u32, Option<(u32, u8)>); 6] = [
+static SPLITS: [(u8, u32, Option<(u32, u8)>); 6] = [
     (1, 1024, None),
     (1, 1025, Some((1026, 6))),
     (2, 1024, None),
@@ -179,26 +181,33 @@ const SPLITS: [(u8, u32, Option<(u32, u8)>); 6] = [
 #[test]
 fn a_script_has_so_many_splits_by_its_version(rt: HostRuntime) {
     for (version, splits, fault) in SPLITS {
-        let text = splits_of(rt.alloc(), version, splits).expect(&rt, "no text");
+        let text = splits_of(&rt, rt.alloc(), version, splits);
         let told = fault_of(rt.alloc(), Purpose::Playing, &text);
         assert_eq!(rt; (version, splits, told), (version, splits, fault));
     }
 }
 
 // A script of 1,100 splits with a join of all but the last of them, and one more.
-fn joined(alloc: Global, one: u32) -> Result<String, AllocError> {
-    let mut text = format!(in alloc; "script 3\ncentre z\nrack r z\nworker w r 1\n")?;
-    add_splits(alloc, &mut text, 1100)?;
-    text.push_str("begin\njoin w")?;
+fn joined(rt: &impl Abort, alloc: Global, one: u32) -> String {
+    let head = "script 3\ncentre z\nrack r z\nworker w r 1\n";
+    let mut text = String::from_str(alloc, head).expect(rt, "no text");
+    add_splits(rt, alloc, &mut text, 1100);
+    text.push_str("begin\njoin w").expect(rt, "no text");
     for number in 0..1099 {
-        text.push_str(&format!(in alloc; " s{number}")?)?;
+        add_name(rt, alloc, &mut text, number);
     }
-    text.push_str(&format!(in alloc; " s{one}\nend\n")?)?;
-    Ok(text)
+    add_name(rt, alloc, &mut text, one);
+    text.push_str("\nend\n").expect(rt, "no text");
+    text
+}
+
+fn add_name(rt: &impl Abort, alloc: Global, text: &mut String, split: u32) {
+    let name = format!(in alloc; " s{split}").expect(rt, "no text");
+    text.push_str(&name).expect(rt, "no text");
 }
 
 // The last split of the join, and the fault of the text.
-const JOINED: [(u32, Option<(u32, u8)>); 4] = [
+static JOINED: [(u32, Option<(u32, u8)>); 4] = [
     (1099, None),
     (1098, Some((1106, 8))),
     (0, Some((1106, 8))),
@@ -208,7 +217,7 @@ const JOINED: [(u32, Option<(u32, u8)>); 4] = [
 #[test]
 fn a_join_of_many_splits_names_each_once(rt: HostRuntime) {
     for (one, fault) in JOINED {
-        let text = joined(rt.alloc(), one).expect(&rt, "no text");
+        let text = joined(&rt, rt.alloc(), one);
         let told = fault_of(rt.alloc(), Purpose::Playing, &text);
         assert_eq!(rt; (one, told), (one, fault));
     }
@@ -222,17 +231,17 @@ const JOB: &str = "job 1\nparts 2\nrack r\nworker a r 1\nsplit s 3 a\ndoc d1 s T
 doc d2 s cat, THE dog\nend\n";
 
 // A script of a version with so many commands.
-fn script_of(alloc: Global, version: u8, commands: u32) -> Result<String, AllocError> {
-    let mut text = format!(in alloc; "script {version}\nbegin\n")?;
+fn script_of(rt: &impl Abort, alloc: Global, version: u8, commands: u32) -> String {
+    let mut text = format!(in alloc; "script {version}\nbegin\n").expect(rt, "no text");
     for _ in 0..commands {
-        text.push_str("wave\n")?;
+        text.push_str("wave\n").expect(rt, "no text");
     }
-    text.push_str("end\n")?;
-    Ok(text)
+    text.push_str("end\n").expect(rt, "no text");
+    text
 }
 
 // Versions, how many commands a script of each has or how many documents a job, and the fault of the text.
-const MANY: [(u8, u32, Option<(u32, u8)>); 4] = [
+static MANY: [(u8, u32, Option<(u32, u8)>); 4] = [
     (1, 65_537, Some((65_539, 6))),
     (2, 65_536, None),
     (2, 65_537, Some((65_539, 6))),
@@ -242,26 +251,27 @@ const MANY: [(u8, u32, Option<(u32, u8)>); 4] = [
 #[test]
 fn a_script_has_so_many_commands_by_its_version(rt: HostRuntime) {
     for (version, commands, fault) in MANY {
-        let text = script_of(rt.alloc(), version, commands).expect(&rt, "no text");
+        let text = script_of(&rt, rt.alloc(), version, commands);
         let told = fault_of(rt.alloc(), Purpose::Playing, &text);
         assert_eq!(rt; (version, commands, told), (version, commands, fault));
     }
 }
 
 // A job of a version with so many documents.
-fn documents_of(alloc: Global, version: u8, documents: u32) -> Result<String, AllocError> {
-    let mut text = format!(in alloc; "job {version}\nsplit s 0\n")?;
+fn documents_of(rt: &impl Abort, alloc: Global, version: u8, documents: u32) -> String {
+    let mut text = format!(in alloc; "job {version}\nsplit s 0\n").expect(rt, "no text");
     for number in 0..documents {
-        text.push_str(&format!(in alloc; "doc d{number} s\n")?)?;
+        let line = format!(in alloc; "doc d{number} s\n").expect(rt, "no text");
+        text.push_str(&line).expect(rt, "no text");
     }
-    text.push_str("end\n")?;
-    Ok(text)
+    text.push_str("end\n").expect(rt, "no text");
+    text
 }
 
 #[test]
 fn a_job_has_so_many_documents_by_its_version(rt: HostRuntime) {
     for (version, documents, fault) in MANY {
-        let text = documents_of(rt.alloc(), version, documents).expect(&rt, "no text");
+        let text = documents_of(&rt, rt.alloc(), version, documents);
         let told = fault_of(rt.alloc(), Purpose::Running, &text);
         assert_eq!(rt; (version, documents, told), (version, documents, fault));
     }
@@ -284,39 +294,47 @@ fn each_front_of_a_job_has_a_fault(rt: HostRuntime) {
 }
 
 // How many commands a script has, whether its second document has its words, and whether it is in version 1.
-fn read_of(alloc: Global, text: &str) -> Option<(usize, bool, bool)> {
-    let known = read_lines(alloc, Purpose::Playing, text.as_bytes()).ok()?;
-    let Row::Line(row) = known.rows().row(Keyword::Doc, 1)? else {
-        return None;
-    };
-    let words = row.words;
-    let is_text = words.len() == 3 && words[0] == "d2" && words[2] == "cat, THE dog";
-    let is_document = row.keyword == Keyword::Doc && is_text;
+fn read_of(rt: &impl Abort, alloc: Global, text: &str) -> (usize, bool, bool) {
+    let known = read_lines(alloc, Purpose::Playing, text.as_bytes()).expect(rt, "not read");
     let is_first = matches!(known.version(), Version::One);
-    Some((known.commands().len(), is_document, is_first))
+    (
+        known.commands().len(),
+        has_second_document(&known),
+        is_first,
+    )
+}
+
+fn has_second_document(known: &KnownLines<'_>) -> bool {
+    match known.rows().row(Keyword::Doc, 1) {
+        Some(Row::Line(row)) => {
+            let words = row.words;
+            let is_text = words.len() == 3 && words[0] == "d2" && words[2] == "cat, THE dog";
+            row.keyword == Keyword::Doc && is_text
+        }
+        _ => false,
+    }
 }
 
 // Whether a text to plan from enters no row and no command, and a table no name.
-fn none_entered(alloc: Global, text: &str) -> Option<[bool; 3]> {
-    let known = read_lines(alloc, Purpose::Planning, text.as_bytes()).ok()?;
-    let names = NameTable::new(alloc);
-    Some([
+fn none_entered(rt: &impl Abort, alloc: Global, text: &str) -> [bool; 3] {
+    let known = read_lines(alloc, Purpose::Planning, text.as_bytes()).expect(rt, "not read");
+    [
         known.rows().is_empty(),
         known.commands().is_empty(),
-        names.is_empty(),
-    ])
+        NameTable::new(alloc).is_empty(),
+    ]
 }
 
 #[test]
 fn a_problem_may_be_empty(rt: HostRuntime) {
     for (rest, empty) in [("end\n", true), ("rack r\nend\n", false)] {
         let text = format!(in rt.alloc(); "problem 1\n{rest}").expect(&rt, "no text");
-        let told = none_entered(rt.alloc(), &text);
-        assert_eq!(rt; told, Some([empty, true, true]), "{rest}");
+        let told = none_entered(&rt, rt.alloc(), &text);
+        assert_eq!(rt; told, [empty, true, true], "{rest}");
     }
 }
 
 #[test]
 fn commands_and_documents_are_kept(rt: HostRuntime) {
-    assert_eq!(rt; read_of(rt.alloc(), PLAYED), Some((11, true, true)));
+    assert_eq!(rt; read_of(&rt, rt.alloc(), PLAYED), (11, true, true));
 }

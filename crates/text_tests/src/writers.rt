@@ -69,9 +69,11 @@ const TEXT: &[u8] = b"problem 1\nend\n";
 fn writes(rt: &impl Abort, mut sink: Sink, taken: usize) {
     let written = write_text(&mut sink, TEXT);
     let is_whole = taken == TEXT.len() && sink.flushes;
-    assert_eq!(rt; written.is_ok(), is_whole, "room for {taken}");
-    assert!(rt; TEXT.starts_with(sink.taken.as_slice()));
-    assert_eq!(rt; sink.taken.len(), taken);
+    let is_front = TEXT.starts_with(sink.taken.as_slice());
+    assert_eq!(rt;
+        (written.is_ok(), is_front, sink.taken.len()),
+        (is_whole, true, taken)
+    );
 }
 
 fn make_sink(alloc: Global, room: usize, full: Full, interrupts: bool) -> Sink {
