@@ -130,19 +130,24 @@ fn close_with<R: Wait + Abort>(rt: &R, alloc: Global, lane: Lane, passes: Vec<Pa
 }
 
 // Hands all the orders to another thread, which takes them in their order.
-fn hand_over<R: Threads + Wait + Sync + Abort>(
+fn hand_over<R: Threads + Wait + Sync>(
     rt: &R,
     alloc: Global,
     orders: Vec<Order>,
-) -> Vec<Order>
-    ensures { result.items ≡ orders.items }
+) -> Option<Vec<Order>>
+    ensures { IfSome result (λ taken. taken.items ≡ orders.items) }
 {
-    let taken = Vec::with_capacity(alloc, orders.len()).expect(rt, "no memory");
-    let (lane, putter, taker) = two_passes(alloc).expect(rt, "no lane");
+    let taken = Vec::with_capacity(alloc, orders.len()).ok()?;
+    let mut passes = Vec::with_capacity(alloc, 2).ok()?;
+    let (lane, mut putter) = Lane::new(alloc, 2).ok()?;
+    let taker = lane.share(&mut putter).ok()?;
     let (putter, taker, taken) = put_and_take(rt, &lane, putter, taker, orders, taken);
-    let passes = list_of_two(alloc, putter, taker).expect(rt, "no memory");
-    let _left = close_with(rt, alloc, lane, passes);
-    taken
+    passes.push_reserved(putter);
+    passes.push_reserved(taker);
+    match lane.close(rt, alloc, passes) {
+        Ok(_) => Some(taken),
+        Err(_) => None,
+    }
 }
 
 fn map_order(alloc: Global, attempt: u32) -> Result<Order, AllocError> {
@@ -305,7 +310,7 @@ fn five_orders(rt: &impl Abort, alloc: Global) -> Vec<Order> {
 #[test]
 fn another_thread_takes_all_in_order(rt: HostRuntime) {
     let orders = five_orders(&rt, rt.alloc());
-    let taken = hand_over(&rt, rt.alloc(), orders);
+    let taken = hand_over(&rt, rt.alloc(), orders).expect(&rt, "not handed over");
     assert_eq!(rt; digits(&taken), 12345);
 }
 
